@@ -1,0 +1,4 @@
+pub mod Lists
+pub mod Members
+pub mod Sorting
+pub mod Places
