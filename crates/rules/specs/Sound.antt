@@ -39,15 +39,16 @@ mayHold s e =
     (cond (eqb s transaction.aborting) (isIn enlistment.toldAbort e || isDone e)
     false)))))
 
--- and what it must hold: the "at least one" and "exactly one" of the same lines
+-- and what it must hold: the "at least one" and "exactly one" of the same lines; there is no other state
 unfoldable pub mustHold : ℕ → List Enlistment → Bool
 mustHold s hs =
-    cond (eqb s transaction.phaseZero) (any isPhaseZero hs)
+    cond (eqb s transaction.active) true
+    (cond (eqb s transaction.phaseZero) (any isPhaseZero hs)
     (cond (eqb s transaction.phaseOne) (any (isIn enlistment.preparing) hs)
     (cond (eqb s transaction.singlePhase) (eqb (length hs) 1)
     (cond (eqb s transaction.committing) (any (λ e. not (isDone e)) hs)
     (cond (eqb s transaction.aborting) (any (isIn enlistment.toldAbort) hs)
-    true))))
+    false)))))
 
 abbrev pub holdsWell : ℕ → List Enlistment → Bool
 holdsWell s hs = all (mayHold s) hs && mustHold s hs
