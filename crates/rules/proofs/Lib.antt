@@ -2,3 +2,4 @@ pub mod Computing
 pub mod Bytes
 pub mod Identifiers
 pub mod Soundness
+pub mod Refused
