@@ -3,3 +3,4 @@ pub mod Bytes
 pub mod Identifiers
 pub mod Soundness
 pub mod Refused
+pub mod Checks

@@ -1,13 +1,11 @@
 -- What is refused gives back what it was given: each definition chooses between the answers that say so and those that are not refused.
 use Prim.Native.Nat.{ℕ}
-use mathlib.Core.Path.{_≡_, refl, sym, _∙_, ap, subst}
-use mathlib.Core.Bool.{Bool, true, false, cond, not, _&&_, _||_, or-false}
-use mathlib.Core.List.{List, [], _∷_, map}
-use lib.Dec.{eqb, ltb, leb}
-use lib.ListN.{length, getD, take, drop}
-use borrow.Author.Tests.{eqb-true, eqb-false, eq-eqb, ne-eqb}
-use Rattle.lists.specs.Lists.{all, any, none}
-use Rattle.lists.proofs.Tests.{by-test, by-cond, no-clash, true-and, not-true, not-false}
+use mathlib.Core.Path.{_≡_, refl, sym, _∙_, ap}
+use mathlib.Core.List.{List}
+use lib.Dec.{eqb, ltb}
+use lib.ListN.{length, take, drop}
+use borrow.Author.Tests.{eqb-true, eq-eqb, ne-eqb}
+use Rattle.lists.proofs.Tests.{by-test, by-cond}
 use Rattle.rules.specs.declared.Table.{Table}
 use Rattle.rules.specs.declared.Event.{Event}
 use Rattle.rules.specs.declared.Message.{Message}
@@ -16,7 +14,7 @@ use Rattle.rules.specs.declared.Row.{Row}
 use Rattle.rules.specs.RefusalNumber as refusal
 use Rattle.rules.specs.Events.{acceptedOf}
 use Rattle.rules.specs.Refusals.{refusalOf}
-use Rattle.rules.specs.Step.{Step, refusedStep, doneStep, stepOf}
+use Rattle.rules.specs.Step.{refusedStep, doneStep, stepOf}
 use Rattle.rules.specs.Sizes.{headerSize}
 use Rattle.rules.specs.Identifiers.{sameBytes}
 use Rattle.rules.specs.Log.{header}
@@ -64,8 +62,8 @@ unfolding restartOf
 restart-given log stored = by-test (isOutside log stored)
     (λ t. rw t (λ n. refl))
     (λ t. rw t (by-test (ltb stored headerSize)
-        (λ u. rw u (by-test (sameBytes (take stored log) (take stored header)) (λ v. rw v (λ n. absurd (n refl))) (λ v. rw v (λ n. refl))))
-        (λ u. rw u (by-test (sameBytes (take headerSize log) header) (λ v. rw v (read-given (drop headerSize (take stored log)) log)) (λ v. rw v (λ n. refl))))))
+    (λ u. rw u (by-test (sameBytes (take stored log) (take stored header)) (λ v. rw v (λ n. absurd (n refl))) (λ v. rw v (λ n. refl))))
+    (λ u. rw u (by-test (sameBytes (take headerSize log) header) (λ v. rw v (read-given (drop headerSize (take stored log)) log)) (λ v. rw v (λ n. refl))))))
 
 -- "Refused restart: an all-zero table, log untouched."
 pub refused-restart : (log : List ℕ) (stored why : ℕ) → restartOf log stored .refusal ≡ why → (why ≡ refusal.accepted → ⊥) → restartOf log stored ≡ refusedRestart why log
