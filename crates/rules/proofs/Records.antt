@@ -2,18 +2,19 @@
 use Prim.Native.Nat.{ℕ, zero, suc, _+_, _*_, _-_, _≤_, _<_}
 use native.Mathlib.Omega.{arith}
 use mathlib.Core.Path.{_≡_, refl, sym, _∙_, ap, ap₂}
-use mathlib.Core.Bool.{Bool, true, false, cond, _&&_, _||_, false≢true}
-use mathlib.Core.List.{List, [], _∷_, _++_, append-assoc, append-nil, nil≢cons, head-eq-of-cons-eq, tail-eq-of-cons-eq}
+use mathlib.Core.Logic.{_⊎_, inl, inr}
+use mathlib.Core.Bool.{true, false, _&&_, _||_, false≢true}
+use mathlib.Core.List.{List, [], _∷_, _++_, append-assoc, nil≢cons, head-eq-of-cons-eq, tail-eq-of-cons-eq}
 use lib.Dec.{eqb, ltb, leb}
-use lib.ListN.{length, take, drop, length-append, length-take, length-drop, take-append-drop}
+use lib.ListN.{length, take, drop, length-append, length-drop, take-append-drop}
 use lib.Seq.{length-take-le, take-all, take-append-le, drop-append-le, take-at, drop-at}
-use borrow.Author.Tests.{eqb-true, ltb-true, ltb-false, leb-true, leb-false, lt-ltb, le-leb, lt-leb, ne-eqb}
+use borrow.Author.Tests.{eqb-true, ltb-true, leb-true, leb-false, lt-ltb, le-leb, lt-leb, ne-eqb}
 use Rattle.lists.specs.Members.{Each}
-use Rattle.lists.proofs.Tests.{by-test, true-and, and-true, each-nothing, each-more, each-head, each-rest}
-use Rattle.rules.specs.Sizes.{identifierSize, entrySize, recordSize, heldMost, largestNumber}
+use Rattle.lists.proofs.Tests.{by-test, by-either, true-and, and-true, each-nothing, each-more, each-head, each-rest, each-take, each-drop}
+use Rattle.rules.specs.Sizes.{identifierSize, entrySize, heldMost, largestNumber}
 use Rattle.rules.specs.Identifiers.{zeroId}
 use Rattle.rules.specs.Log.{Entry, Record, low4, number4, commitTag, forgetTag, entryBytes, entriesBytes, recordBytes, allBytes, commitSize, forgetSize, sizeOf, entriesOf, recordOf, isWhole, scan, behind, beginsNone}
-use Rattle.rules.proofs.Bytes.{number-of-low}
+use Rattle.rules.proofs.Bytes.{number-of-low, number-small}
 
 -- ── records that can be written ─────────────────────────────────────────────────────────────────────────────────
 
@@ -42,12 +43,16 @@ entries-read (e ∷ es) v = ap₂ _∷_ one (rw (drop-at (entryBytes e) (entries
   where
     bytes : List ℕ
     bytes = entryBytes e ++ entriesBytes es
+
     apart : bytes ≡ e .rm ++ (low4 (e .number) ++ entriesBytes es)
     apart = append-assoc (e .rm) (low4 (e .number)) (entriesBytes es)
+
     rm-is : take identifierSize bytes ≡ e .rm
     rm-is = rw apart (take-at (e .rm) _ identifierSize (each-head v .rm-size))
+
     number-is : number4 (take 4 (drop identifierSize bytes)) ≡ e .number
     number-is = rw (apart, drop-at (e .rm) (low4 (e .number) ++ entriesBytes es) identifierSize (each-head v .rm-size)) (number-of-low (e .number) (each-head v .number-small))
+
     one : _≡_ {A = Entry} (record { rm = take identifierSize bytes; number = number4 (take 4 (drop identifierSize bytes)) }) e
     one = λ i. record { rm = rm-is i; number = number-is i }
 
@@ -170,8 +175,10 @@ scan-longer zero (x ∷ y ∷ a) b = by-test (isWhole x y a)
   where
     fits : isWhole x y a ≡ true → (ltb 0 (sizeOf x y) ≡ true) × (sizeOf x y ≤ 2 + length a)
     fits t = let (p, q) = true-and (ltb 0 (sizeOf x y)) (leb (sizeOf x y) (2 + length a)) t in (p, leb-true _ _ q)
+
     wide : isWhole x y a ≡ true → isWhole x y (a ++ b) ≡ true
     wide t = let (p, q) = fits t in and-true p (le-leb (sizeOf x y) (2 + length (a ++ b)) (rw (length-append a b) (omega arith)))
+
     cut : isWhole x y a ≡ true → take (sizeOf x y - 2) (a ++ b) ≡ take (sizeOf x y - 2) a
     cut t = let (p, q) = fits t in take-append-le (sizeOf x y - 2) a b (omega arith)
 
@@ -194,10 +201,13 @@ cut (r ∷ rs) v bs rest e = by-test (leb (length (recordBytes r)) (length bs))
   where
     n : ℕ
     n = length (recordBytes r)
+
     front : n ≤ length bs → take n bs ≡ recordBytes r
     front h = sym (take-append-le n bs rest h) ∙ ap (take n) e ∙ take-at (recordBytes r) (allBytes rs) n refl
+
     there : n ≤ length bs → drop n bs ++ rest ≡ allBytes rs
     there h = sym (drop-append-le n bs rest h) ∙ ap (drop n) e ∙ drop-at (recordBytes r) (allBytes rs) n refl
+
     one-more : leb n (length bs) ≡ true → Cut (drop n bs) rs → Cut bs (r ∷ rs)
     one-more t c = record {
       kept = r ∷ c .kept;
@@ -207,8 +217,10 @@ cut (r ∷ rs) v bs rest e = by-test (leb (length (recordBytes r)) (length bs))
       bytes = sym (take-append-drop n bs) ∙ ap₂ _++_ (front (leb-true _ _ t)) (c .bytes) ∙ sym (append-assoc (recordBytes r) (allBytes (c .kept)) (c .torn));
       is-torn = c .is-torn;
     }
+
     begun : length bs < n → bs ≡ take (length bs) (recordBytes r)
     begun h = sym (take-at bs rest (length bs) refl) ∙ ap (take (length bs)) e ∙ take-append-le (length bs) (recordBytes r) (allBytes rs) (omega arith)
+
     inside : length bs < n → Torn bs
     inside h = record {
       whole = r;
@@ -231,3 +243,99 @@ entries-of-sizes zero bs h = each-nothing _
 entries-of-sizes (suc n) bs h = each-more {P = λ e. length (e .rm) ≡ identifierSize}
     (length-take-le identifierSize bs (omega arith))
     (entries-of-sizes n (drop entrySize bs) (rw (length-drop entrySize bs) (omega arith)))
+
+-- the two kinds of record that two bytes begin
+sized : (b c : ℕ) → ltb 0 (sizeOf b c) ≡ true
+    → ((b ≡ commitTag) × (0 < c) × (c ≤ heldMost) × (sizeOf b c ≡ commitSize c)) ⊎ ((b ≡ forgetTag) × (c ≡ 0) × (sizeOf b c ≡ forgetSize))
+unfolding sizeOf
+sized b c h = by-test (eqb b commitTag && (ltb 0 c && leb c heldMost))
+    (λ t. let (p, q) = true-and (eqb b commitTag) (ltb 0 c && leb c heldMost) t in
+    let (l, m) = true-and (ltb 0 c) (leb c heldMost) q in
+    inl (eqb-true b commitTag p, ltb-true 0 c l, leb-true c heldMost m, rw t))
+    (λ t. by-test (eqb b forgetTag && eqb c 0)
+    (λ u. let (p, q) = true-and (eqb b forgetTag) (eqb c 0) u in inr (eqb-true b forgetTag p, eqb-true c 0 q, rw (t, u)))
+    (λ u. absurd (false≢true (rw (t, u) at h))))
+
+size-least : (b c : ℕ) → ltb 0 (sizeOf b c) ≡ true → 2 ≤ sizeOf b c
+size-least b c h = by-either
+    (λ (p : (b ≡ commitTag) × (0 < c) × (c ≤ heldMost) × (sizeOf b c ≡ commitSize c)). omega (arith, p .3))
+    (λ (p : (b ≡ forgetTag) × (c ≡ 0) × (sizeOf b c ≡ forgetSize)). omega (arith, p .2))
+    (sized b c h)
+
+-- a record that is read has the size that its first bytes say
+read-size : (b c : ℕ) (bs : List ℕ) → ltb 0 (sizeOf b c) ≡ true → 2 + length bs ≡ sizeOf b c → length (recordBytes (recordOf b c bs)) ≡ sizeOf b c
+unfolding recordOf recordBytes
+read-size b c bs h l = by-either
+    (λ (p : (b ≡ commitTag) × (0 < c) × (c ≤ heldMost) × (sizeOf b c ≡ commitSize c)).
+    let m : length bs ≡ identifierSize + entrySize * c = omega (arith, l, p .3) in
+    let es : List Entry = entriesOf c (drop identifierSize bs) in
+    rw (
+      p .3,
+      p .0,
+      length-append (take identifierSize bs) (entriesBytes es),
+      length-take-le identifierSize bs (omega arith),
+      entries-length es (entries-of-sizes c (drop identifierSize bs) (rw (length-drop identifierSize bs) (omega arith))),
+      entries-of-count c (drop identifierSize bs),
+    ) (omega arith))
+    (λ (p : (b ≡ forgetTag) × (c ≡ 0) × (sizeOf b c ≡ forgetSize)).
+    rw (p .2, p .0, length-take-le identifierSize bs (omega (arith, l, p .2))))
+    (sized b c h)
+
+-- the bytes are those of the records and those behind; k of them are passed over
+pub scan-length : (k : ℕ) (bs : List ℕ) → k ≤ length bs → length bs ≡ k + (length (allBytes (scan k bs)) + length (behind k bs))
+unfolding scan behind allBytes
+scan-length zero [] h = refl
+scan-length (suc k) [] h = absurd (omega arith)
+scan-length (suc k) (b ∷ bs) h = let i : length bs ≡ k + (length (allBytes (scan k bs)) + length (behind k bs)) = scan-length k bs (omega arith) in omega arith
+scan-length zero (b ∷ []) h = refl
+scan-length zero (b ∷ c ∷ bs) h = by-test (isWhole b c bs)
+    (λ t. let (p, q) = true-and (ltb 0 (sizeOf b c)) (leb (sizeOf b c) (2 + length bs)) t in
+    let g : 0 < sizeOf b c = ltb-true 0 (sizeOf b c) p in
+    let m : sizeOf b c ≤ 2 + length bs = leb-true _ _ q in
+    let n : 2 ≤ sizeOf b c = size-least b c p in
+    let r : List ℕ = take (sizeOf b c - 2) bs in
+    let i : length bs ≡ sizeOf b c - 2 + (length (allBytes (scan (sizeOf b c - 2) bs)) + length (behind (sizeOf b c - 2) bs)) = scan-length (sizeOf b c - 2) bs (omega arith) in
+    rw (t, length-append (recordBytes (recordOf b c r)) (allBytes (scan (sizeOf b c - 2) bs)), read-size b c r p (rw (length-take-le (sizeOf b c - 2) bs (omega arith)) (omega arith))) (omega arith))
+    (λ t. rw t (omega arith))
+
+-- ── what is read of bytes can be written ────────────────────────────────────────────────────────────────────────
+
+entries-of-numbers : (n : ℕ) (bs : List ℕ) → Each (λ b. b < 256) bs → Each (λ e. e .number ≤ largestNumber) (entriesOf n bs)
+unfolding entriesOf
+entries-of-numbers zero bs h = each-nothing _
+entries-of-numbers (suc n) bs h = each-more {P = λ e. e .number ≤ largestNumber}
+    (number-small (take 4 (drop identifierSize bs)) (each-take 4 (each-drop identifierSize h)))
+    (entries-of-numbers n (drop entrySize bs) (each-drop entrySize h))
+
+read-valid : (b c : ℕ) (bs : List ℕ) → Each (λ b. b < 256) bs → ltb 0 (sizeOf b c) ≡ true → 2 + length bs ≡ sizeOf b c → Valid (recordOf b c bs)
+unfolding recordOf
+read-valid b c bs h s l = by-either
+    (λ (p : (b ≡ commitTag) × (0 < c) × (c ≤ heldMost) × (sizeOf b c ≡ commitSize c)).
+    let m : length bs ≡ identifierSize + entrySize * c = omega (arith, l, p .3) in
+    let es : List Entry = entriesOf c (drop identifierSize bs) in
+    let n : length es ≡ c = entries-of-count c (drop identifierSize bs) in
+    rw (p .0) (valid-commit {es = es}
+    (length-take-le identifierSize bs (omega arith))
+    (omega (arith, n, p .1))
+    (omega (arith, n, p .2))
+    (λ e i. record {
+      rm-size = entries-of-sizes c (drop identifierSize bs) (rw (length-drop identifierSize bs) (omega arith)) e i;
+      number-small = entries-of-numbers c (drop identifierSize bs) (each-drop identifierSize h) e i;
+    })))
+    (λ (p : (b ≡ forgetTag) × (c ≡ 0) × (sizeOf b c ≡ forgetSize)). rw (p .0) (valid-forget (length-take-le identifierSize bs (omega (arith, l, p .2)))))
+    (sized b c s)
+
+pub scan-valid : (k : ℕ) (bs : List ℕ) → Each (λ b. b < 256) bs → Each Valid (scan k bs)
+unfolding scan
+scan-valid k [] h = each-nothing _
+scan-valid (suc k) (b ∷ bs) h = scan-valid k bs (each-rest h)
+scan-valid zero (b ∷ []) h = each-nothing _
+scan-valid zero (b ∷ c ∷ bs) h = by-test (isWhole b c bs)
+    (λ t. let (p, q) = true-and (ltb 0 (sizeOf b c)) (leb (sizeOf b c) (2 + length bs)) t in
+    let m : sizeOf b c ≤ 2 + length bs = leb-true _ _ q in
+    let n : 2 ≤ sizeOf b c = size-least b c p in
+    let r : List ℕ = take (sizeOf b c - 2) bs in
+    rw t (each-more {P = Valid}
+    (read-valid b c r (each-take (sizeOf b c - 2) (each-rest (each-rest h))) p (rw (length-take-le (sizeOf b c - 2) bs (omega arith)) (omega arith)))
+    (scan-valid (sizeOf b c - 2) bs (each-rest (each-rest h)))))
+    (λ t. rw t (each-nothing _))
