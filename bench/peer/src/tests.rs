@@ -1,0 +1,636 @@
+//! The whole case of the paper, its twelve named cases, and more.
+
+use crate::log::{restart, HEADER};
+use crate::step::{step, Event, Reply, Signal, Signals, Vote};
+use crate::table::{
+    Enlistment, EnlistmentState, Id, Kind, Table, Transaction, TransactionState,
+};
+use crate::trace::{self, parse, Command};
+use crate::Refusal;
+
+// Helpers.
+
+fn id(last: u8) -> Id {
+    Id::from_last(last)
+}
+
+/// A table with its log, driven by events.
+struct Host {
+    table: Table,
+    log: Vec<u8>,
+    signals: Signals,
+}
+
+impl Host {
+    fn new(capacity: usize) -> Self {
+        let mut log = vec![0; capacity];
+        let table = restart(&mut log, 0).unwrap();
+        Self { table, log, signals: Signals::default() }
+    }
+
+    fn step(&mut self, event: Event) -> Result<Vec<(Signal, u32)>, Refusal> {
+        step(&mut self.table, &mut self.log, event, &mut self.signals)?;
+        Ok(self.signals.to_vec())
+    }
+
+    /// Takes a trace line that is a step.
+    fn take(&mut self, line: &str) -> Result<Vec<(Signal, u32)>, Refusal> {
+        match parse(line.as_bytes()) {
+            Some(Command::Step(event)) => self.step(event),
+            _ => panic!("not a step: {line}"),
+        }
+    }
+
+    fn take_all(&mut self, lines: &[&str]) {
+        for line in lines {
+            self.take(line).unwrap_or_else(|refusal| panic!("{line}: {refusal:?}"));
+        }
+    }
+
+    fn state(&self, number: u32) -> Option<EnlistmentState> {
+        self.table.find_enlistment(number).map(|place| self.table.enlistments[place].state)
+    }
+
+    fn transaction(&self, last: u8) -> Option<TransactionState> {
+        let place = self.table.find_transaction(id(last))?;
+        Some(self.table.transactions[place].state)
+    }
+}
+
+fn traced(input: &[u8]) -> String {
+    let mut output = Vec::new();
+    trace::run(input, &mut output, true).unwrap();
+    let mut untested = Vec::new();
+    trace::run(input, &mut untested, false).unwrap();
+    assert_eq!(output, untested);
+    String::from_utf8(output).unwrap()
+}
+
+/// Checks input and output given side by side, as the paper does.
+fn check_trace(case: &str) {
+    let mut input = String::new();
+    let mut expected = String::new();
+    for line in case.lines().map(str::trim).filter(|line| !line.is_empty()) {
+        let (left, right) = line.split_once("  ").expect("two columns");
+        input += left.trim();
+        input += "\n";
+        expected += right.trim();
+        expected += "\n";
+    }
+    assert_eq!(traced(input.as_bytes()), expected);
+}
+
+fn commit_record(t: u8, entries: &[(u8, u32)]) -> Vec<u8> {
+    let mut record = vec![1, entries.len() as u8];
+    record.extend(id(t).to_bytes());
+    for &(rm, number) in entries {
+        record.extend(id(rm).to_bytes());
+        record.extend(number.to_le_bytes());
+    }
+    record
+}
+
+fn forget_record(t: u8) -> Vec<u8> {
+    let mut record = vec![2, 0];
+    record.extend(id(t).to_bytes());
+    record
+}
+
+fn log_of(records: &[Vec<u8>]) -> Vec<u8> {
+    let mut log = HEADER.to_vec();
+    log.extend(records.concat());
+    log
+}
+
+/// Restarts with `stored` as stored bytes; checks that the log is untouched
+/// (but for a header written).
+fn restarted(stored: &[u8], capacity: usize) -> Result<Table, Refusal> {
+    let mut log = vec![0xee; capacity];
+    log[..stored.len()].copy_from_slice(stored);
+    let before = log.clone();
+    let result = restart(&mut log, stored.len());
+    if stored.len() < 8 && result.is_ok() {
+        assert_eq!(log[..8], HEADER);
+        assert_eq!(log[8..], before[8..]);
+    } else {
+        assert_eq!(log, before);
+    }
+    result
+}
+
+// The whole case.
+
+#[test]
+fn whole_case() {
+    check_trace(
+        "begin 7                     0 8 0
+         enlist 7 1 21 durable       0 8 0
+         enlist 7 2 22 durable       0 8 0
+         commit 7                    0 8 2 prepare:1 prepare:2
+         vote 1 prepared             0 8 0
+         lost 1                      0 8 0
+         vote 2 prepared             0 66 2 commit:2 app-committed:0
+         ack 2                       0 66 0
+         restart                     0 66 0
+         ask 7 21                    0 66 1 answer-committed:1
+         ack 1                       0 66 0
+         reenlisted 22               0 84 0
+         commit 7                    2 84 0",
+    );
+}
+
+#[test]
+fn whole_case_log_bytes() {
+    let lines = b"begin 7\nenlist 7 1 21 durable\nenlist 7 2 22 durable\ncommit 7\n\
+        vote 1 prepared\nlost 1\nvote 2 prepared\nack 2\nrestart\nask 7 21\nack 1\n\
+        reenlisted 22\ncommit 7";
+    let trace = trace::run(&lines[..], std::io::sink(), true).unwrap();
+    let expected = log_of(&[commit_record(7, &[(21, 1), (22, 2)]), forget_record(7)]);
+    assert_eq!(trace.log(), expected);
+}
+
+// The twelve cases of "Proof of the rules".
+
+fn host_of_31() -> Host {
+    let mut host = Host::new(4096);
+    for t in 1..=31 {
+        host.step(Event::Begin { transaction: id(t) }).unwrap();
+    }
+    host
+}
+
+#[test]
+fn case_01_begin_32nd() {
+    let mut host = host_of_31();
+    assert_eq!(host.take("begin 32"), Ok(vec![]));
+    let last = Transaction { id: id(32), state: TransactionState::Active };
+    assert_eq!(host.table.transactions[31], last);
+}
+
+#[test]
+fn case_02_begin_33rd() {
+    let mut host = host_of_31();
+    host.take_all(&["begin 32"]);
+    let before = host.table.clone();
+    assert_eq!(host.take("begin 33"), Err(Refusal::NoRoom));
+    assert_eq!(host.table, before);
+    assert_eq!(host.take("begin 32"), Err(Refusal::AlreadyLive));
+}
+
+fn host_of_15() -> Host {
+    let mut host = Host::new(4096);
+    host.take_all(&["begin 1"]);
+    for n in 1..=15 {
+        host.take_all(&[&format!("enlist 1 {n} {n} durable")]);
+    }
+    host
+}
+
+#[test]
+fn case_03_enlist_16th() {
+    let mut host = host_of_15();
+    assert_eq!(host.take("enlist 1 16 16 durable"), Ok(vec![]));
+    assert_eq!(host.table.enlistments[15].number, 16);
+}
+
+#[test]
+fn case_04_enlist_17th() {
+    let mut host = host_of_15();
+    host.take_all(&["enlist 1 16 16 durable"]);
+    assert_eq!(host.take("enlist 1 17 17 durable"), Err(Refusal::NoRoom));
+    assert_eq!(host.take("enlist 1 16 17 durable"), Err(Refusal::AlreadyEnlisted));
+    assert_eq!(host.take("enlist 1 17 16 durable"), Err(Refusal::AlreadyEnlisted));
+}
+
+fn lone_durable(capacity: usize) -> Host {
+    let mut host = Host::new(capacity);
+    host.take_all(&["begin 1", "enlist 1 1 1 durable twophase"]);
+    assert_eq!(host.take("commit 1"), Ok(vec![(Signal::Prepare, 1)]));
+    host
+}
+
+#[test]
+fn case_05_capacity_64_commits() {
+    let mut host = lone_durable(64);
+    let signals = vec![(Signal::Commit, 1), (Signal::AppCommitted, 0)];
+    assert_eq!(host.take("vote 1 prepared"), Ok(signals));
+    assert_eq!(host.table.used, 46);
+    host.take_all(&["ack 1"]);
+    assert_eq!(host.table.used, 64);
+    assert_eq!(host.log, log_of(&[commit_record(1, &[(1, 1)]), forget_record(1)]));
+    assert_eq!(host.table, Table::fresh(64, 64));
+}
+
+#[test]
+fn case_06_capacity_63_aborts() {
+    let mut host = lone_durable(63);
+    let signals = vec![(Signal::Abort, 1), (Signal::AppAborted, 0)];
+    assert_eq!(host.take("vote 1 prepared"), Ok(signals));
+    assert_eq!(host.table.used, 8);
+    assert_eq!(host.transaction(1), Some(TransactionState::Aborting));
+    assert_eq!(host.state(1), Some(EnlistmentState::ToldAbort));
+}
+
+#[test]
+fn case_07_read_only_alone_ends_unlogged() {
+    let mut host = lone_durable(4096);
+    assert_eq!(host.take("vote 1 readonly"), Ok(vec![(Signal::AppCommitted, 0)]));
+    assert_eq!(host.table, Table::fresh(4096, 8));
+}
+
+#[test]
+fn case_08_durable_lost_in_prepared() {
+    let mut host = Host::new(4096);
+    host.take_all(&["begin 1", "enlist 1 1 1 durable", "enlist 1 2 2 durable", "commit 1"]);
+    host.take_all(&["vote 1 prepared"]);
+    assert_eq!(host.take("lost 1"), Ok(vec![]));
+    assert_eq!(host.state(1), Some(EnlistmentState::PreparedLost));
+    assert_eq!(host.transaction(1), Some(TransactionState::PhaseOne));
+}
+
+#[test]
+fn case_09_volatile_lost_in_prepared() {
+    let mut host = Host::new(4096);
+    host.take_all(&["begin 1", "enlist 1 1 1 volatile", "enlist 1 2 2 durable", "commit 1"]);
+    host.take_all(&["vote 1 prepared"]);
+    let signals = vec![(Signal::Abort, 2), (Signal::AppAborted, 0)];
+    assert_eq!(host.take("lost 1"), Ok(signals));
+    assert_eq!(host.state(1), Some(EnlistmentState::Done));
+    assert_eq!(host.state(2), Some(EnlistmentState::ToldAbort));
+}
+
+#[test]
+fn case_10_ask_of_unknown() {
+    let mut host = Host::new(4096);
+    let before = host.table.clone();
+    assert_eq!(host.take("ask 9 9"), Ok(vec![(Signal::AnswerAborted, 0)]));
+    assert_eq!(host.table, before);
+}
+
+#[test]
+fn case_11_stored_0() {
+    assert_eq!(restarted(&[], 4096), Ok(Table::fresh(4096, 8)));
+    assert_eq!(restarted(&[], 8), Ok(Table::fresh(8, 8)));
+}
+
+#[test]
+fn case_12_stored_first_7_of_header() {
+    assert_eq!(restarted(&HEADER[..7], 4096), Ok(Table::fresh(4096, 8)));
+    assert_eq!(restarted(b"RTL\x01\x00\x00\x01", 4096), Err(Refusal::DamagedLog));
+}
+
+// Restart.
+
+#[test]
+fn restart_bounds() {
+    assert_eq!(restarted(&[], 7), Err(Refusal::DamagedLog));
+    assert_eq!(restarted(&[], 65_537), Err(Refusal::DamagedLog));
+    assert_eq!(restarted(&[], 65_536), Ok(Table::fresh(65_536, 8)));
+    assert_eq!(restart(&mut [0; 20], 21), Err(Refusal::DamagedLog));
+    assert_eq!(restarted(b"RTM", 100), Err(Refusal::DamagedLog));
+    assert_eq!(restarted(b"RTL\x01\x00\x00\x00\x01", 100), Err(Refusal::DamagedLog));
+}
+
+#[test]
+fn restart_torn_and_bad_heads() {
+    let whole = log_of(&[commit_record(3, &[(1, 5), (2, 9)]), forget_record(3)]);
+    for stored in 0..=whole.len() {
+        let used = match stored {
+            0..66 => 8,
+            66..84 => 66,
+            _ => 84,
+        };
+        let table = restarted(&whole[..stored], 4096).unwrap();
+        assert_eq!((table.used, table.open_count()), (used, usize::from(used == 66)));
+    }
+    for bad in [&[0][..], &[3], &[1, 0], &[1, 17], &[2, 1], &[0, 0]] {
+        let log = [&HEADER[..], bad].concat();
+        assert_eq!(restarted(&log, 4096), Err(Refusal::DamagedLog));
+    }
+    for torn in [&[1][..], &[2], &[1, 1], &[1, 16], &[2, 0]] {
+        let log = [&HEADER[..], torn].concat();
+        assert_eq!(restarted(&log, 4096), Ok(Table::fresh(4096, 8)));
+    }
+}
+
+#[test]
+fn restart_judges_whole_records() {
+    let bad = |records: &[Vec<u8>]| {
+        assert_eq!(restarted(&log_of(records), 65_536), Err(Refusal::DamagedLog));
+    };
+    bad(&[commit_record(0, &[(1, 1)])]);
+    bad(&[commit_record(1, &[(0, 1)])]);
+    bad(&[commit_record(1, &[(1, 0)])]);
+    bad(&[commit_record(1, &[(1, 1), (2, 1)])]);
+    bad(&[commit_record(1, &[(1, 2), (2, 1)])]);
+    bad(&[commit_record(1, &[(1, 1), (1, 2)])]);
+    bad(&[commit_record(1, &[(1, 1)]), commit_record(1, &[(1, 2)])]);
+    bad(&[commit_record(1, &[(1, 1)]), commit_record(2, &[(1, 1)])]);
+    bad(&[forget_record(1)]);
+    bad(&[commit_record(1, &[(1, 1)]), forget_record(0)]);
+    bad(&[commit_record(1, &[(1, 1)]), forget_record(1), forget_record(1)]);
+
+    // The 33rd open transaction, even if one is forgotten afterwards.
+    let mut records: Vec<_> = (1..=32).map(|t| commit_record(t, &[(1, t.into())])).collect();
+    assert_eq!(restarted(&log_of(&records), 65_536).unwrap().open_count(), 32);
+    records.push(commit_record(33, &[(1, 33)]));
+    records.push(forget_record(1));
+    bad(&records);
+
+    // The 129th open entry.
+    let entries = |t: u8| (1..=16).map(move |k| (k, u32::from(t) * 16 + u32::from(k)));
+    let mut records: Vec<_> =
+        (1..=8).map(|t| commit_record(t, &entries(t).collect::<Vec<_>>())).collect();
+    let table = restarted(&log_of(&records), 65_536).unwrap();
+    assert!(table.enlistments.iter().all(|e| e.state == EnlistmentState::FailedToNotify));
+    records.push(commit_record(9, &[(1, 1000)]));
+    bad(&records);
+}
+
+#[test]
+fn restart_order_and_numbers_used_again() {
+    let log = log_of(&[
+        commit_record(9, &[(1, 1)]),
+        commit_record(5, &[(1, 7), (2, 8)]),
+        forget_record(9),
+        commit_record(7, &[(2, 1)]),
+        commit_record(9, &[(3, 2)]),
+    ]);
+    let table = restarted(&log, 4096).unwrap();
+    let ids: Vec<_> = table.transactions[..4].iter().map(|t| t.id).collect();
+    assert_eq!(ids, [id(5), id(7), id(9), id(0)]);
+    let entries: Vec<_> = table.enlistments[..5].iter().map(|e| (e.rm, e.number)).collect();
+    assert_eq!(entries, [(id(1), 7), (id(2), 8), (id(2), 1), (id(3), 2), (id(0), 0)]);
+}
+
+#[test]
+fn restart_too_short() {
+    let log = log_of(&[commit_record(1, &[(1, 1)])]);
+    assert_eq!(restarted(&log, 63), Err(Refusal::LogTooShort));
+    assert_eq!(restarted(&log, 64).unwrap().used, 46);
+}
+
+// Steps.
+
+#[test]
+fn zero_phase() {
+    check_trace(
+        "begin 1                     0 8 0
+         enlist 1 5 1 zero           0 8 0
+         enlist 1 3 1 zero twophase  0 8 0
+         enlist 1 4 2 durable        0 8 0
+         commit 1                    0 8 2 zero:3 zero:5
+         commit 1                    6 8 0
+         enlist 1 2 1 zero           0 8 1 zero:2
+         enlist 1 1 1 volatile       0 8 0
+         zdone 1                     7 8 0
+         zdone 3                     0 8 0
+         zdone 3                     3 8 0
+         zdone 5                     0 8 0
+         ask 1 2                     0 8 1 answer-not-yet:4
+         zdone 2                     0 8 2 prepare:1 prepare:4
+         zdone 1                     7 8 0
+         vote 4 prepared             0 8 0
+         vote 1 prepared             0 46 3 commit:1 commit:4 app-committed:0
+         lost 1                      0 46 0
+         lost 4                      0 46 0
+         lost 4                      7 46 0
+         ack 4                       7 46 0
+         reenlisted 2                0 64 0
+         ask 1 2                     0 64 1 answer-aborted:0",
+    );
+}
+
+#[test]
+fn single_phase() {
+    check_trace(
+        "begin 1                     0 8 0
+         enlist 1 1 1 zero           0 8 0
+         enlist 1 2 2 durable        0 8 0
+         commit 1                    0 8 1 zero:1
+         zdone 1                     0 8 1 single:2
+         ask 1 2                     0 8 1 answer-not-yet:2
+         ask 1 1                     9 8 0
+         rollback 1                  6 8 0
+         vote 2 prepared             7 8 0
+         sp 2 indoubt                0 8 1 app-in-doubt:0
+         begin 1                     0 8 0
+         enlist 1 2 2 volatile       0 8 0
+         commit 1                    0 8 1 single:2
+         lost 2                      0 8 1 app-in-doubt:0
+         begin 1                     0 8 0
+         commit 1                    0 8 1 app-committed:0
+         begin 1                     0 8 0
+         rollback 1                  0 8 1 app-aborted:0",
+    );
+}
+
+#[test]
+fn lost_ones_only() {
+    // Only Prepared-lost ones left at the decision.
+    check_trace(
+        "begin 1                     0 8 0
+         enlist 1 1 1 durable        0 8 0
+         enlist 1 2 2 volatile       0 8 0
+         commit 1                    0 8 2 prepare:1 prepare:2
+         vote 1 prepared             0 8 0
+         lost 1                      0 8 0
+         vote 2 readonly             0 46 1 app-committed:0
+         reenlisted 1                0 64 0",
+    );
+    // They are Done at once in an abort, and so the transaction ends.
+    check_trace(
+        "begin 1                     0 8 0
+         enlist 1 1 1 durable        0 8 0
+         enlist 1 2 2 volatile       0 8 0
+         commit 1                    0 8 2 prepare:1 prepare:2
+         vote 1 prepared             0 8 0
+         lost 1                      0 8 0
+         vote 2 aborted              0 8 1 app-aborted:0
+         commit 1                    2 8 0",
+    );
+}
+
+#[test]
+fn several_forgets_by_ascending_identifier() {
+    let mut host = Host::new(4096);
+    for (t, n) in [(9, 1), (4, 2), (6, 3)] {
+        host.take_all(&[
+            &format!("begin {t}"),
+            &format!("enlist {t} {n} 1 durable twophase"),
+            &format!("commit {t}"),
+            &format!("vote {n} prepared"),
+        ]);
+    }
+    assert_eq!(host.take("reenlisted 1"), Err(Refusal::NotAllFailed));
+    host.take_all(&["lost 1", "lost 2", "lost 3"]);
+    let used = host.table.used;
+    host.take_all(&["reenlisted 1"]);
+    let forgets = [forget_record(4), forget_record(6), forget_record(9)].concat();
+    assert_eq!(host.log[used..host.table.used], forgets);
+    assert_eq!(host.table, Table::fresh(4096, used + 54));
+}
+
+#[test]
+fn refusals_in_order() {
+    check_trace(
+        "begin 0                     1 8 0
+         enlist 9 0 1 durable        1 8 0
+         enlist 9 1 0 durable        1 8 0
+         enlist 9 1 1 durable        2 8 0
+         rollback 9                  2 8 0
+         ack 9                       3 8 0
+         sp 0 committed              1 8 0
+         ask 0 1                     1 8 0
+         ask 1 0                     1 8 0
+         reenlisted 0                1 8 0
+         reenlisted 9                0 8 0
+         begin 1                     0 8 0
+         begin 1                     4 8 0
+         enlist 1 1 1 durable        0 8 0
+         enlist 1 1 1 durable        5 8 0
+         enlist 1 2 1 volatile       0 8 0
+         ack 1                       7 8 0
+         commit 1                    0 8 2 prepare:1 prepare:2
+         enlist 1 1 1 durable        6 8 0
+         rollback 1                  6 8 0
+         lost 1                      0 8 2 abort:2 app-aborted:0
+         reenlisted 1                0 8 0
+         ask 1 9                     0 8 1 answer-aborted:0
+         lost 1                      7 8 0
+         ack 2                       0 8 0
+         lost 2                      3 8 0",
+    );
+}
+
+#[test]
+fn step_checks_table_before_log() {
+    let mut host = Host::new(64);
+    host.log.push(0);
+    assert_eq!(host.take("begin 0"), Err(Refusal::LogLength));
+    host.table.used = 7;
+    assert_eq!(host.take("begin 0"), Err(Refusal::NotSound));
+}
+
+// Soundness.
+
+#[test]
+fn soundness() {
+    use EnlistmentState::*;
+    type Edit = fn(&mut Table);
+
+    let mut host = Host::new(100);
+    host.take_all(&[
+        "begin 1",
+        "enlist 1 1 1 durable",
+        "enlist 1 2 2 durable",
+        "enlist 1 3 2 volatile twophase",
+        "enlist 1 4 2 zero",
+        "begin 2",
+    ]);
+    let sound = host.table;
+    assert!(sound.is_sound());
+    let edits: [Edit; 18] = [
+        |t| t.transactions[0].id = id(0),
+        |t| t.transactions[1].id = id(1),
+        |t| t.transactions[2].id = id(3),
+        |t| t.transactions[0].state = TransactionState::PhaseZero,
+        |t| t.transactions[1].state = TransactionState::PhaseOne,
+        |t| t.transactions[1].state = TransactionState::Committing,
+        |t| t.enlistments[0].number = 0,
+        |t| t.enlistments[0].number = 2,
+        |t| t.enlistments[0].rm = id(0),
+        |t| t.enlistments[0].rm = id(2),
+        |t| t.enlistments[0].transaction = id(3),
+        |t| t.enlistments[0].state = Done,
+        |t| t.enlistments[0].state = Empty,
+        |t| t.enlistments[3].single = true,
+        |t| t.enlistments[9].rm = id(1),
+        |t| t.used = 101,
+        |t| t.used = 7,
+        |t| t.capacity = 65_537,
+    ];
+    for (at, edit) in edits.iter().enumerate() {
+        let mut table = sound.clone();
+        edit(&mut table);
+        assert!(!table.is_sound(), "edit {at}");
+    }
+    let mut table = sound.clone();
+    table.capacity = 8;
+    assert!(table.is_sound());
+    table.enlistments[3] = Enlistment::default();
+    assert!(table.is_sound());
+    table.transactions[0].state = TransactionState::Committing;
+    for place in 0..3 {
+        table.enlistments[place].state = ToldCommit;
+    }
+    assert!(!table.is_sound());
+    table.capacity = 26;
+    assert!(table.is_sound());
+    table.enlistments[1].state = FailedToNotify;
+    assert!(table.is_sound());
+    table.enlistments[2].state = FailedToNotify;
+    assert!(!table.is_sound());
+}
+
+// Lines.
+
+#[test]
+fn lines() {
+    assert_eq!(traced(b""), "");
+    assert_eq!(traced(b"\n"), "16 8 0\n");
+    assert_eq!(traced(b"begin 1\nbegin 1"), "0 8 0\n4 8 0\n");
+    assert_eq!(traced(b"begin 1\r\n\xff\0\nrestart"), "16 8 0\n16 8 0\n0 8 0\n");
+    for bad in [
+        " begin 1", "begin 1 ", "begin  1", "begin", "begin 256", "begin 01", "begin +1", "Begin 1",
+        "begin 1 2", "restart 1", "restart ", "ack 4294967296", "ack 00", "ack -1", "ack",
+        "vote 1", "vote 1 no", "enlist 1 1 1", "enlist 1 1 1 durable ", "sp 1 in-doubt",
+        "enlist 1 1 1 durable single single", "reenlisted 256", "ask 1", "begin\t1", "ack 1e3",
+    ] {
+        assert_eq!(parse(bad.as_bytes()), None, "{bad}");
+    }
+    let ack = Event::Ack { number: u32::MAX };
+    assert_eq!(parse(b"ack 4294967295"), Some(Command::Step(ack)));
+    let vote = Event::Vote { number: 0, vote: Vote::ReadOnly };
+    assert_eq!(parse(b"vote 0 readonly"), Some(Command::Step(vote)));
+    let reply = Event::Reply { number: 10, reply: Reply::InDoubt };
+    assert_eq!(parse(b"sp 10 indoubt"), Some(Command::Step(reply)));
+    let enlist = |single| {
+        let (transaction, rm) = (id(255), id(0));
+        Command::Step(Event::Enlist { transaction, number: 1, rm, kind: Kind::Volatile, single })
+    };
+    assert_eq!(parse(b"enlist 255 1 0 volatile"), Some(enlist(true)));
+    assert_eq!(parse(b"enlist 255 1 0 volatile single"), Some(enlist(true)));
+    assert_eq!(parse(b"enlist 255 1 0 volatile twophase"), Some(enlist(false)));
+}
+
+#[test]
+fn long_lines() {
+    // Every length about the limit, with and without a newline; and a line
+    // far longer than any buffer.
+    for length in 60..140 {
+        let line = vec![b'x'; length];
+        let more = [&line[..], b"\nbegin 1\n", &line[..]].concat();
+        assert_eq!(traced(&line), "16 8 0\n");
+        assert_eq!(traced(&more), "16 8 0\n0 8 0\n16 8 0\n");
+    }
+    let long = [&vec![b'b'; 1 << 20][..], b"\nbegin 1"].concat();
+    assert_eq!(traced(&long), "16 8 0\n0 8 0\n");
+}
+
+#[test]
+fn restart_lines() {
+    let mut whole = Vec::new();
+    trace::push_hex(&mut whole, &log_of(&[commit_record(7, &[(21, 1), (22, 2)])]));
+    let mut input = b"4096 66 ".to_vec();
+    input.extend(&whole);
+    input.extend(b"\n70 66 ");
+    input.extend(&whole);
+    input.extend(b"\n4096 0 \n4096 0\n4096 3 52544c\n4096 3 52544d\n7 8\nx\n64 65");
+    let mut output = Vec::new();
+    trace::run_restarts(&input[..], &mut output).unwrap();
+    let expected = "0 66 00000000000000000000000000000007:\
+        00000000000000000000000000000015.1,00000000000000000000000000000016.2\n\
+        13 0\n0 8\n0 8\n0 8\n11 0\n11 0\n16 0\n11 0\n";
+    assert_eq!(String::from_utf8(output).unwrap(), expected);
+}
