@@ -32,14 +32,24 @@ pub fn append_commit(table: &mut Table, log: &mut [u8], owner: usize, members: &
             entries += 1;
         }
     }
-    write_head(&mut log[start..], COMMIT, entries, table.transactions[owner].id);
+    write_head(
+        &mut log[start..],
+        COMMIT,
+        entries,
+        table.transactions[owner].id,
+    );
     table.used = at;
 }
 
 /// Appends the forget record of the open transaction in place `owner`; a
 /// sound table has room for it.
 pub fn append_forget(table: &mut Table, log: &mut [u8], owner: usize) {
-    write_head(&mut log[table.used..], FORGET, 0, table.transactions[owner].id);
+    write_head(
+        &mut log[table.used..],
+        FORGET,
+        0,
+        table.transactions[owner].id,
+    );
     table.used += FORGET_LENGTH;
 }
 
@@ -87,7 +97,10 @@ impl Reading {
 
     /// Judges a whole commit record; `None` is a damaged one.
     fn commit(&mut self, record: &[u8]) -> Option<()> {
-        let mut new = Open { id: id_at(record, 2), ..Open::default() };
+        let mut new = Open {
+            id: id_at(record, 2),
+            ..Open::default()
+        };
         if new.id.is_zero() || self.position(new.id).is_some() {
             return None;
         }
@@ -156,7 +169,10 @@ pub fn restart(log: &mut [u8], stored: usize) -> Result<Table, Refusal> {
         return Err(Refusal::DamagedLog);
     }
 
-    let mut reading = Reading { open: [Open::default(); TRANSACTIONS], count: 0 };
+    let mut reading = Reading {
+        open: [Open::default(); TRANSACTIONS],
+        count: 0,
+    };
     let mut used = HEADER.len();
     // The stored bytes from `used` on; a torn record stops the reading.
     loop {
@@ -165,11 +181,12 @@ pub fn restart(log: &mut [u8], stored: usize) -> Result<Table, Refusal> {
             [] | [COMMIT | FORGET] => break,
             [COMMIT, n, ..] if (1..=PER_TRANSACTION).contains(&usize::from(n)) => {
                 let length = commit_length(usize::from(n));
-                rest.get(..length).map(|record| (length, reading.commit(record)))
+                rest.get(..length)
+                    .map(|record| (length, reading.commit(record)))
             }
-            [FORGET, 0, ..] => {
-                rest.get(..FORGET_LENGTH).map(|record| (FORGET_LENGTH, reading.forget(record)))
-            }
+            [FORGET, 0, ..] => rest
+                .get(..FORGET_LENGTH)
+                .map(|record| (FORGET_LENGTH, reading.forget(record))),
             _ => return Err(Refusal::DamagedLog),
         };
         match judged {
@@ -185,7 +202,10 @@ pub fn restart(log: &mut [u8], stored: usize) -> Result<Table, Refusal> {
     let mut table = Table::fresh(capacity, used);
     let mut places = table.enlistments.iter_mut();
     for (transaction, open) in table.transactions.iter_mut().zip(reading.open()) {
-        *transaction = Transaction { id: open.id, state: TransactionState::Committing };
+        *transaction = Transaction {
+            id: open.id,
+            state: TransactionState::Committing,
+        };
         for (entry, place) in open.entries().iter().zip(&mut places) {
             *place = Enlistment {
                 transaction: open.id,

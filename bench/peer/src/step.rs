@@ -23,17 +23,46 @@ pub enum Reply {
 
 #[derive(Clone, Copy, Debug, PartialEq, Eq)]
 pub enum Event {
-    Begin { transaction: Id },
-    Enlist { transaction: Id, number: u32, rm: Id, kind: Kind, single: bool },
-    Commit { transaction: Id },
-    Rollback { transaction: Id },
-    ZeroDone { number: u32 },
-    Vote { number: u32, vote: Vote },
-    Reply { number: u32, reply: Reply },
-    Ack { number: u32 },
-    Lost { number: u32 },
-    Ask { transaction: Id, rm: Id },
-    Reenlisted { rm: Id },
+    Begin {
+        transaction: Id,
+    },
+    Enlist {
+        transaction: Id,
+        number: u32,
+        rm: Id,
+        kind: Kind,
+        single: bool,
+    },
+    Commit {
+        transaction: Id,
+    },
+    Rollback {
+        transaction: Id,
+    },
+    ZeroDone {
+        number: u32,
+    },
+    Vote {
+        number: u32,
+        vote: Vote,
+    },
+    Reply {
+        number: u32,
+        reply: Reply,
+    },
+    Ack {
+        number: u32,
+    },
+    Lost {
+        number: u32,
+    },
+    Ask {
+        transaction: Id,
+        rm: Id,
+    },
+    Reenlisted {
+        rm: Id,
+    },
 }
 
 #[derive(Clone, Copy, Debug, Default, PartialEq, Eq)]
@@ -106,7 +135,12 @@ pub fn step_on_sound(
     }
     #[cfg(debug_assertions)]
     let before = (table.clone(), log.to_vec());
-    let result = Step { table, log, signals }.take(event);
+    let result = Step {
+        table,
+        log,
+        signals,
+    }
+    .take(event);
     #[cfg(debug_assertions)]
     check_step(&before.0, &before.1, table, log, signals, result);
     result
@@ -146,9 +180,13 @@ impl Step<'_> {
     fn take(&mut self, event: Event) -> Result<(), Refusal> {
         match event {
             Event::Begin { transaction } => self.begin(transaction),
-            Event::Enlist { transaction, number, rm, kind, single } => {
-                self.enlist(transaction, number, rm, kind, single)
-            }
+            Event::Enlist {
+                transaction,
+                number,
+                rm,
+                kind,
+                single,
+            } => self.enlist(transaction, number, rm, kind, single),
             Event::Commit { transaction } => self.commit(transaction),
             Event::Rollback { transaction } => self.rollback(transaction),
             Event::ZeroDone { number } => self.zero_done(number),
@@ -176,7 +214,10 @@ impl Step<'_> {
             .iter()
             .position(|transaction| transaction.state == TransactionState::Empty)
             .ok_or(Refusal::NoRoom)?;
-        self.table.transactions[place] = Transaction { id, state: TransactionState::Active };
+        self.table.transactions[place] = Transaction {
+            id,
+            state: TransactionState::Active,
+        };
         Ok(())
     }
 
@@ -213,7 +254,9 @@ impl Step<'_> {
             }
             held += usize::from(same);
         }
-        let place = free.filter(|_| held < PER_TRANSACTION).ok_or(Refusal::NoRoom)?;
+        let place = free
+            .filter(|_| held < PER_TRANSACTION)
+            .ok_or(Refusal::NoRoom)?;
 
         self.table.enlistments[place] = Enlistment {
             transaction,
@@ -414,7 +457,9 @@ impl Step<'_> {
         if id.is_zero() {
             return Err(Refusal::Zero);
         }
-        self.table.find_transaction(id).ok_or(Refusal::TransactionNotLive)
+        self.table
+            .find_transaction(id)
+            .ok_or(Refusal::TransactionNotLive)
     }
 
     /// Place of the enlistment named and of its transaction; refusals 1, 3
@@ -427,7 +472,10 @@ impl Step<'_> {
         if number == 0 {
             return Err(Refusal::Zero);
         }
-        let place = self.table.find_enlistment(number).ok_or(Refusal::NumberNotHeld)?;
+        let place = self
+            .table
+            .find_enlistment(number)
+            .ok_or(Refusal::NumberNotHeld)?;
         let enlistment = &self.table.enlistments[place];
         if !named(enlistment.state) {
             return Err(Refusal::EnlistmentState);
@@ -469,8 +517,8 @@ impl Step<'_> {
         let durable = |&&place: &&usize| self.table.enlistments[place].kind == Kind::Durable;
         let durables = members.iter().filter(durable).count();
         if durables > 0 {
-            let needed = log::commit_length(durables)
-                + log::FORGET_LENGTH * (1 + self.table.open_count());
+            let needed =
+                log::commit_length(durables) + log::FORGET_LENGTH * (1 + self.table.open_count());
             if self.table.capacity - self.table.used < needed {
                 self.abort(owner);
                 return;
@@ -524,7 +572,12 @@ impl Step<'_> {
             log::append_forget(self.table, self.log, owner);
         }
         let id = self.table.transactions[owner].id;
-        for other in self.table.enlistments.iter_mut().filter(|other| other.transaction == id) {
+        for other in self
+            .table
+            .enlistments
+            .iter_mut()
+            .filter(|other| other.transaction == id)
+        {
             *other = Enlistment::default();
         }
         self.table.transactions[owner] = Transaction::default();

@@ -156,6 +156,73 @@ impl Census {
     }
 }
 
+/// The places of live transactions by identifier: a hash table with open
+/// addressing, for the soundness test alone. It holds place + 1; 0 is free.
+struct Owners([u8; Self::SLOTS]);
+
+impl Default for Owners {
+    fn default() -> Self {
+        Self([0; Self::SLOTS])
+    }
+}
+
+impl Owners {
+    const SLOTS: usize = 2 * TRANSACTIONS;
+
+    /// The slot where `id` is, or else the free one where it belongs.
+    fn slot(&self, table: &Table, id: Id) -> usize {
+        let folded = (id.0 >> 64) as u64 ^ id.0 as u64;
+        let mut slot = spread(folded) % Self::SLOTS;
+        while self.0[slot] != 0 && table.transactions[usize::from(self.0[slot]) - 1].id != id {
+            slot = (slot + 1) % Self::SLOTS;
+        }
+        slot
+    }
+
+    /// False if another place holds the same identifier.
+    fn insert(&mut self, table: &Table, place: usize) -> bool {
+        let slot = self.slot(table, table.transactions[place].id);
+        let new = self.0[slot] == 0;
+        self.0[slot] = place as u8 + 1;
+        new
+    }
+
+    fn find(&self, table: &Table, id: Id) -> Option<usize> {
+        usize::from(self.0[self.slot(table, id)]).checked_sub(1)
+    }
+}
+
+/// The numbers met, likewise; 0 is free.
+struct Numbers([u32; Self::SLOTS]);
+
+impl Default for Numbers {
+    fn default() -> Self {
+        Self([0; Self::SLOTS])
+    }
+}
+
+impl Numbers {
+    const SLOTS: usize = 2 * ENLISTMENTS;
+
+    /// False if the number, which is not zero, has been met before.
+    fn insert(&mut self, number: u32) -> bool {
+        let mut slot = spread(number.into()) % Self::SLOTS;
+        while self.0[slot] != 0 {
+            if self.0[slot] == number {
+                return false;
+            }
+            slot = (slot + 1) % Self::SLOTS;
+        }
+        self.0[slot] = number;
+        true
+    }
+}
+
+/// Spreads keys over the low bits.
+fn spread(key: u64) -> usize {
+    (key.wrapping_mul(0x9e37_79b9_7f4a_7c15) >> 48) as usize
+}
+
 impl Table {
     pub fn fresh(capacity: usize, used: usize) -> Self {
         Self {
@@ -168,22 +235,19 @@ impl Table {
 
     /// "A table is sound if ..."
     pub fn is_sound(&self) -> bool {
+        let mut owners = Owners::default();
         for (place, transaction) in self.transactions.iter().enumerate() {
             if transaction.state == TransactionState::Empty {
                 if *transaction != Transaction::default() {
                     return false;
                 }
-            } else if transaction.id.is_zero()
-                || self.transactions[..place].iter().any(|other| other.id == transaction.id)
-            {
+            } else if transaction.id.is_zero() || !owners.insert(self, place) {
                 return false;
             }
         }
 
         let mut census = [Census::default(); TRANSACTIONS];
-        let mut numbers = [0u32; ENLISTMENTS];
-        let mut held = 0;
-        let mut owner = 0;
+        let mut numbers = Numbers::default();
         for (place, enlistment) in self.enlistments.iter().enumerate() {
             if enlistment.state == EnlistmentState::Empty {
                 if *enlistment != Enlistment::default() {
@@ -193,22 +257,14 @@ impl Table {
             }
             if enlistment.number == 0
                 || enlistment.rm.is_zero()
-                || enlistment.transaction.is_zero()
                 || (enlistment.kind == P && enlistment.single)
-                || numbers[..held].contains(&enlistment.number)
+                || !numbers.insert(enlistment.number)
             {
                 return false;
             }
-            numbers[held] = enlistment.number;
-            held += 1;
-
-            // Neighbours often share their transaction: look there first.
-            if self.transactions[owner].id != enlistment.transaction {
-                match self.find_transaction(enlistment.transaction) {
-                    Some(found) => owner = found,
-                    None => return false,
-                }
-            }
+            let Some(owner) = owners.find(self, enlistment.transaction) else {
+                return false;
+            };
             let census = &mut census[owner];
             if census.held == PER_TRANSACTION {
                 return false;
@@ -233,8 +289,7 @@ impl Table {
             if !census.fits(transaction.state) {
                 return false;
             }
-            if transaction.state == TransactionState::Committing
-                && census.pairs & ANY_DURABLE != 0
+            if transaction.state == TransactionState::Committing && census.pairs & ANY_DURABLE != 0
             {
                 open += 1;
             }
@@ -247,19 +302,26 @@ impl Table {
 
     /// Place of the live transaction `id`, which is not zero.
     pub fn find_transaction(&self, id: Id) -> Option<usize> {
-        self.transactions.iter().position(|transaction| transaction.id == id)
+        self.transactions
+            .iter()
+            .position(|transaction| transaction.id == id)
     }
 
     /// Place of the enlistment `number`, which is not zero.
     pub fn find_enlistment(&self, number: u32) -> Option<usize> {
-        self.enlistments.iter().position(|enlistment| enlistment.number == number)
+        self.enlistments
+            .iter()
+            .position(|enlistment| enlistment.number == number)
     }
 
     /// The enlistments of the transaction in place `owner`, by ascending
     /// number. The table is sound.
     pub fn members(&self, owner: usize) -> Members {
         let id = self.transactions[owner].id;
-        let mut members = Members { places: [0; PER_TRANSACTION], held: 0 };
+        let mut members = Members {
+            places: [0; PER_TRANSACTION],
+            held: 0,
+        };
         for (place, enlistment) in self.enlistments.iter().enumerate() {
             if enlistment.transaction == id {
                 let mut at = members.held;
@@ -279,11 +341,16 @@ impl Table {
     pub fn is_open(&self, owner: usize) -> bool {
         let Transaction { id, state } = self.transactions[owner];
         state == TransactionState::Committing
-            && self.enlistments.iter().any(|e| e.transaction == id && e.kind == D)
+            && self
+                .enlistments
+                .iter()
+                .any(|e| e.transaction == id && e.kind == D)
     }
 
     pub fn open_count(&self) -> usize {
-        (0..TRANSACTIONS).filter(|&owner| self.is_open(owner)).count()
+        (0..TRANSACTIONS)
+            .filter(|&owner| self.is_open(owner))
+            .count()
     }
 }
 

@@ -2,9 +2,7 @@
 
 use crate::log::{restart, HEADER};
 use crate::step::{step, Event, Reply, Signal, Signals, Vote};
-use crate::table::{
-    Enlistment, EnlistmentState, Id, Kind, Table, Transaction, TransactionState,
-};
+use crate::table::{Enlistment, EnlistmentState, Id, Kind, Table, Transaction, TransactionState};
 use crate::trace::{self, parse, Command};
 use crate::Refusal;
 
@@ -25,7 +23,11 @@ impl Host {
     fn new(capacity: usize) -> Self {
         let mut log = vec![0; capacity];
         let table = restart(&mut log, 0).unwrap();
-        Self { table, log, signals: Signals::default() }
+        Self {
+            table,
+            log,
+            signals: Signals::default(),
+        }
     }
 
     fn step(&mut self, event: Event) -> Result<Vec<(Signal, u32)>, Refusal> {
@@ -43,12 +45,15 @@ impl Host {
 
     fn take_all(&mut self, lines: &[&str]) {
         for line in lines {
-            self.take(line).unwrap_or_else(|refusal| panic!("{line}: {refusal:?}"));
+            self.take(line)
+                .unwrap_or_else(|refusal| panic!("{line}: {refusal:?}"));
         }
     }
 
     fn state(&self, number: u32) -> Option<EnlistmentState> {
-        self.table.find_enlistment(number).map(|place| self.table.enlistments[place].state)
+        self.table
+            .find_enlistment(number)
+            .map(|place| self.table.enlistments[place].state)
     }
 
     fn transaction(&self, last: u8) -> Option<TransactionState> {
@@ -163,7 +168,10 @@ fn host_of_31() -> Host {
 fn case_01_begin_32nd() {
     let mut host = host_of_31();
     assert_eq!(host.take("begin 32"), Ok(vec![]));
-    let last = Transaction { id: id(32), state: TransactionState::Active };
+    let last = Transaction {
+        id: id(32),
+        state: TransactionState::Active,
+    };
     assert_eq!(host.table.transactions[31], last);
 }
 
@@ -198,8 +206,14 @@ fn case_04_enlist_17th() {
     let mut host = host_of_15();
     host.take_all(&["enlist 1 16 16 durable"]);
     assert_eq!(host.take("enlist 1 17 17 durable"), Err(Refusal::NoRoom));
-    assert_eq!(host.take("enlist 1 16 17 durable"), Err(Refusal::AlreadyEnlisted));
-    assert_eq!(host.take("enlist 1 17 16 durable"), Err(Refusal::AlreadyEnlisted));
+    assert_eq!(
+        host.take("enlist 1 16 17 durable"),
+        Err(Refusal::AlreadyEnlisted)
+    );
+    assert_eq!(
+        host.take("enlist 1 17 16 durable"),
+        Err(Refusal::AlreadyEnlisted)
+    );
 }
 
 fn lone_durable(capacity: usize) -> Host {
@@ -217,7 +231,10 @@ fn case_05_capacity_64_commits() {
     assert_eq!(host.table.used, 46);
     host.take_all(&["ack 1"]);
     assert_eq!(host.table.used, 64);
-    assert_eq!(host.log, log_of(&[commit_record(1, &[(1, 1)]), forget_record(1)]));
+    assert_eq!(
+        host.log,
+        log_of(&[commit_record(1, &[(1, 1)]), forget_record(1)])
+    );
     assert_eq!(host.table, Table::fresh(64, 64));
 }
 
@@ -234,14 +251,22 @@ fn case_06_capacity_63_aborts() {
 #[test]
 fn case_07_read_only_alone_ends_unlogged() {
     let mut host = lone_durable(4096);
-    assert_eq!(host.take("vote 1 readonly"), Ok(vec![(Signal::AppCommitted, 0)]));
+    assert_eq!(
+        host.take("vote 1 readonly"),
+        Ok(vec![(Signal::AppCommitted, 0)])
+    );
     assert_eq!(host.table, Table::fresh(4096, 8));
 }
 
 #[test]
 fn case_08_durable_lost_in_prepared() {
     let mut host = Host::new(4096);
-    host.take_all(&["begin 1", "enlist 1 1 1 durable", "enlist 1 2 2 durable", "commit 1"]);
+    host.take_all(&[
+        "begin 1",
+        "enlist 1 1 1 durable",
+        "enlist 1 2 2 durable",
+        "commit 1",
+    ]);
     host.take_all(&["vote 1 prepared"]);
     assert_eq!(host.take("lost 1"), Ok(vec![]));
     assert_eq!(host.state(1), Some(EnlistmentState::PreparedLost));
@@ -251,7 +276,12 @@ fn case_08_durable_lost_in_prepared() {
 #[test]
 fn case_09_volatile_lost_in_prepared() {
     let mut host = Host::new(4096);
-    host.take_all(&["begin 1", "enlist 1 1 1 volatile", "enlist 1 2 2 durable", "commit 1"]);
+    host.take_all(&[
+        "begin 1",
+        "enlist 1 1 1 volatile",
+        "enlist 1 2 2 durable",
+        "commit 1",
+    ]);
     host.take_all(&["vote 1 prepared"]);
     let signals = vec![(Signal::Abort, 2), (Signal::AppAborted, 0)];
     assert_eq!(host.take("lost 1"), Ok(signals));
@@ -276,7 +306,10 @@ fn case_11_stored_0() {
 #[test]
 fn case_12_stored_first_7_of_header() {
     assert_eq!(restarted(&HEADER[..7], 4096), Ok(Table::fresh(4096, 8)));
-    assert_eq!(restarted(b"RTL\x01\x00\x00\x01", 4096), Err(Refusal::DamagedLog));
+    assert_eq!(
+        restarted(b"RTL\x01\x00\x00\x01", 4096),
+        Err(Refusal::DamagedLog)
+    );
 }
 
 // Restart.
@@ -288,7 +321,10 @@ fn restart_bounds() {
     assert_eq!(restarted(&[], 65_536), Ok(Table::fresh(65_536, 8)));
     assert_eq!(restart(&mut [0; 20], 21), Err(Refusal::DamagedLog));
     assert_eq!(restarted(b"RTM", 100), Err(Refusal::DamagedLog));
-    assert_eq!(restarted(b"RTL\x01\x00\x00\x00\x01", 100), Err(Refusal::DamagedLog));
+    assert_eq!(
+        restarted(b"RTL\x01\x00\x00\x00\x01", 100),
+        Err(Refusal::DamagedLog)
+    );
 }
 
 #[test]
@@ -301,7 +337,10 @@ fn restart_torn_and_bad_heads() {
             _ => 84,
         };
         let table = restarted(&whole[..stored], 4096).unwrap();
-        assert_eq!((table.used, table.open_count()), (used, usize::from(used == 66)));
+        assert_eq!(
+            (table.used, table.open_count()),
+            (used, usize::from(used == 66))
+        );
     }
     for bad in [&[0][..], &[3], &[1, 0], &[1, 17], &[2, 1], &[0, 0]] {
         let log = [&HEADER[..], bad].concat();
@@ -316,7 +355,10 @@ fn restart_torn_and_bad_heads() {
 #[test]
 fn restart_judges_whole_records() {
     let bad = |records: &[Vec<u8>]| {
-        assert_eq!(restarted(&log_of(records), 65_536), Err(Refusal::DamagedLog));
+        assert_eq!(
+            restarted(&log_of(records), 65_536),
+            Err(Refusal::DamagedLog)
+        );
     };
     bad(&[commit_record(0, &[(1, 1)])]);
     bad(&[commit_record(1, &[(0, 1)])]);
@@ -328,21 +370,34 @@ fn restart_judges_whole_records() {
     bad(&[commit_record(1, &[(1, 1)]), commit_record(2, &[(1, 1)])]);
     bad(&[forget_record(1)]);
     bad(&[commit_record(1, &[(1, 1)]), forget_record(0)]);
-    bad(&[commit_record(1, &[(1, 1)]), forget_record(1), forget_record(1)]);
+    bad(&[
+        commit_record(1, &[(1, 1)]),
+        forget_record(1),
+        forget_record(1),
+    ]);
 
     // The 33rd open transaction, even if one is forgotten afterwards.
-    let mut records: Vec<_> = (1..=32).map(|t| commit_record(t, &[(1, t.into())])).collect();
-    assert_eq!(restarted(&log_of(&records), 65_536).unwrap().open_count(), 32);
+    let mut records: Vec<_> = (1..=32)
+        .map(|t| commit_record(t, &[(1, t.into())]))
+        .collect();
+    assert_eq!(
+        restarted(&log_of(&records), 65_536).unwrap().open_count(),
+        32
+    );
     records.push(commit_record(33, &[(1, 33)]));
     records.push(forget_record(1));
     bad(&records);
 
     // The 129th open entry.
     let entries = |t: u8| (1..=16).map(move |k| (k, u32::from(t) * 16 + u32::from(k)));
-    let mut records: Vec<_> =
-        (1..=8).map(|t| commit_record(t, &entries(t).collect::<Vec<_>>())).collect();
+    let mut records: Vec<_> = (1..=8)
+        .map(|t| commit_record(t, &entries(t).collect::<Vec<_>>()))
+        .collect();
     let table = restarted(&log_of(&records), 65_536).unwrap();
-    assert!(table.enlistments.iter().all(|e| e.state == EnlistmentState::FailedToNotify));
+    assert!(table
+        .enlistments
+        .iter()
+        .all(|e| e.state == EnlistmentState::FailedToNotify));
     records.push(commit_record(9, &[(1, 1000)]));
     bad(&records);
 }
@@ -359,8 +414,14 @@ fn restart_order_and_numbers_used_again() {
     let table = restarted(&log, 4096).unwrap();
     let ids: Vec<_> = table.transactions[..4].iter().map(|t| t.id).collect();
     assert_eq!(ids, [id(5), id(7), id(9), id(0)]);
-    let entries: Vec<_> = table.enlistments[..5].iter().map(|e| (e.rm, e.number)).collect();
-    assert_eq!(entries, [(id(1), 7), (id(2), 8), (id(2), 1), (id(3), 2), (id(0), 0)]);
+    let entries: Vec<_> = table.enlistments[..5]
+        .iter()
+        .map(|e| (e.rm, e.number))
+        .collect();
+    assert_eq!(
+        entries,
+        [(id(1), 7), (id(2), 8), (id(2), 1), (id(3), 2), (id(0), 0)]
+    );
 }
 
 #[test]
@@ -580,28 +641,67 @@ fn lines() {
     assert_eq!(traced(b""), "");
     assert_eq!(traced(b"\n"), "16 8 0\n");
     assert_eq!(traced(b"begin 1\nbegin 1"), "0 8 0\n4 8 0\n");
-    assert_eq!(traced(b"begin 1\r\n\xff\0\nrestart"), "16 8 0\n16 8 0\n0 8 0\n");
+    assert_eq!(
+        traced(b"begin 1\r\n\xff\0\nrestart"),
+        "16 8 0\n16 8 0\n0 8 0\n"
+    );
     for bad in [
-        " begin 1", "begin 1 ", "begin  1", "begin", "begin 256", "begin 01", "begin +1", "Begin 1",
-        "begin 1 2", "restart 1", "restart ", "ack 4294967296", "ack 00", "ack -1", "ack",
-        "vote 1", "vote 1 no", "enlist 1 1 1", "enlist 1 1 1 durable ", "sp 1 in-doubt",
-        "enlist 1 1 1 durable single single", "reenlisted 256", "ask 1", "begin\t1", "ack 1e3",
+        " begin 1",
+        "begin 1 ",
+        "begin  1",
+        "begin",
+        "begin 256",
+        "begin 01",
+        "begin +1",
+        "Begin 1",
+        "begin 1 2",
+        "restart 1",
+        "restart ",
+        "ack 4294967296",
+        "ack 00",
+        "ack -1",
+        "ack",
+        "vote 1",
+        "vote 1 no",
+        "enlist 1 1 1",
+        "enlist 1 1 1 durable ",
+        "sp 1 in-doubt",
+        "enlist 1 1 1 durable single single",
+        "reenlisted 256",
+        "ask 1",
+        "begin\t1",
+        "ack 1e3",
     ] {
         assert_eq!(parse(bad.as_bytes()), None, "{bad}");
     }
     let ack = Event::Ack { number: u32::MAX };
     assert_eq!(parse(b"ack 4294967295"), Some(Command::Step(ack)));
-    let vote = Event::Vote { number: 0, vote: Vote::ReadOnly };
+    let vote = Event::Vote {
+        number: 0,
+        vote: Vote::ReadOnly,
+    };
     assert_eq!(parse(b"vote 0 readonly"), Some(Command::Step(vote)));
-    let reply = Event::Reply { number: 10, reply: Reply::InDoubt };
+    let reply = Event::Reply {
+        number: 10,
+        reply: Reply::InDoubt,
+    };
     assert_eq!(parse(b"sp 10 indoubt"), Some(Command::Step(reply)));
     let enlist = |single| {
         let (transaction, rm) = (id(255), id(0));
-        Command::Step(Event::Enlist { transaction, number: 1, rm, kind: Kind::Volatile, single })
+        Command::Step(Event::Enlist {
+            transaction,
+            number: 1,
+            rm,
+            kind: Kind::Volatile,
+            single,
+        })
     };
     assert_eq!(parse(b"enlist 255 1 0 volatile"), Some(enlist(true)));
     assert_eq!(parse(b"enlist 255 1 0 volatile single"), Some(enlist(true)));
-    assert_eq!(parse(b"enlist 255 1 0 volatile twophase"), Some(enlist(false)));
+    assert_eq!(
+        parse(b"enlist 255 1 0 volatile twophase"),
+        Some(enlist(false))
+    );
 }
 
 #[test]
@@ -621,7 +721,10 @@ fn long_lines() {
 #[test]
 fn restart_lines() {
     let mut whole = Vec::new();
-    trace::push_hex(&mut whole, &log_of(&[commit_record(7, &[(21, 1), (22, 2)])]));
+    trace::push_hex(
+        &mut whole,
+        &log_of(&[commit_record(7, &[(21, 1), (22, 2)])]),
+    );
     let mut input = b"4096 66 ".to_vec();
     input.extend(&whole);
     input.extend(b"\n70 66 ");
@@ -633,4 +736,204 @@ fn restart_lines() {
         00000000000000000000000000000015.1,00000000000000000000000000000016.2\n\
         13 0\n0 8\n0 8\n0 8\n11 0\n11 0\n16 0\n11 0\n";
     assert_eq!(String::from_utf8(output).unwrap(), expected);
+}
+
+// The fast soundness test against a slow one that follows the paper's words.
+
+fn plainly_sound(table: &Table) -> bool {
+    use EnlistmentState as E;
+    use TransactionState as T;
+    let live: Vec<_> = table
+        .transactions
+        .iter()
+        .filter(|t| **t != Transaction::default())
+        .collect();
+    let held: Vec<_> = table
+        .enlistments
+        .iter()
+        .filter(|e| **e != Enlistment::default())
+        .collect();
+    let of = |t: &Transaction| -> Vec<&Enlistment> {
+        held.iter()
+            .copied()
+            .filter(|e| e.transaction == t.id)
+            .collect()
+    };
+    let fits = |t: &Transaction| {
+        let all = of(t);
+        let no_p = all.iter().all(|e| e.kind != Kind::PhaseZero);
+        let d = |e: &Enlistment| e.kind == Kind::Durable;
+        let any = |states: &[E]| all.iter().any(|e| states.contains(&e.state));
+        match t.state {
+            T::Empty => false,
+            T::Active => all.iter().all(|e| e.state == E::Active),
+            T::PhaseZero => {
+                any(&[E::Zero])
+                    && all.iter().all(|e| {
+                        let zero = e.kind == Kind::PhaseZero;
+                        e.state == if zero { E::Zero } else { E::Active }
+                    })
+            }
+            T::PhaseOne => {
+                no_p && any(&[E::Preparing])
+                    && all.iter().all(|e| match e.state {
+                        E::Preparing | E::Prepared => true,
+                        E::PreparedLost => d(e),
+                        _ => false,
+                    })
+            }
+            T::SinglePhase => {
+                no_p && all.len() == 1 && all[0].single && all[0].state == E::OnePhase
+            }
+            T::Committing => {
+                no_p && any(&[E::ToldCommit, E::FailedToNotify])
+                    && all.iter().all(|e| match e.state {
+                        E::ToldCommit | E::Done => true,
+                        E::FailedToNotify => d(e),
+                        _ => false,
+                    })
+            }
+            T::Aborting => {
+                any(&[E::ToldAbort])
+                    && all
+                        .iter()
+                        .all(|e| matches!(e.state, E::ToldAbort | E::Done))
+            }
+        }
+    };
+    let open = live
+        .iter()
+        .filter(|t| t.state == T::Committing && of(t).iter().any(|e| e.kind == Kind::Durable))
+        .count();
+    live.iter()
+        .all(|t| fits(t) && !t.id.is_zero() && of(t).len() <= 16)
+        && live
+            .iter()
+            .enumerate()
+            .all(|(at, t)| live[..at].iter().all(|o| o.id != t.id))
+        && held.iter().enumerate().all(|(at, e)| {
+            e.state != E::Empty
+                && e.number != 0
+                && !e.rm.is_zero()
+                && !e.transaction.is_zero()
+                && live.iter().any(|t| t.id == e.transaction)
+                && !(e.kind == Kind::PhaseZero && e.single)
+                && held[..at].iter().all(|o| {
+                    let durables = o.kind == Kind::Durable && e.kind == Kind::Durable;
+                    let same = o.transaction == e.transaction && o.rm == e.rm;
+                    o.number != e.number && !(durables && same)
+                })
+        })
+        && 8 <= table.used
+        && table.used + 18 * open <= table.capacity
+        && table.capacity <= 65_536
+}
+
+#[test]
+fn soundness_agrees_with_the_words() {
+    const STATES: [EnlistmentState; 11] = [
+        EnlistmentState::Empty,
+        EnlistmentState::Active,
+        EnlistmentState::Zero,
+        EnlistmentState::Preparing,
+        EnlistmentState::Prepared,
+        EnlistmentState::PreparedLost,
+        EnlistmentState::OnePhase,
+        EnlistmentState::ToldCommit,
+        EnlistmentState::FailedToNotify,
+        EnlistmentState::ToldAbort,
+        EnlistmentState::Done,
+    ];
+    const TRANSACTION_STATES: [TransactionState; 7] = [
+        TransactionState::Empty,
+        TransactionState::Active,
+        TransactionState::PhaseZero,
+        TransactionState::PhaseOne,
+        TransactionState::SinglePhase,
+        TransactionState::Committing,
+        TransactionState::Aborting,
+    ];
+    const KINDS: [Kind; 3] = [Kind::PhaseZero, Kind::Volatile, Kind::Durable];
+    const VOTES: [Vote; 3] = [Vote::Prepared, Vote::ReadOnly, Vote::Aborted];
+
+    let mut seed = 1u64;
+    let mut below = |end: usize| {
+        seed = seed
+            .wrapping_mul(6_364_136_223_846_793_005)
+            .wrapping_add(1_442_695_040_888_963_407);
+        (seed >> 33) as usize % end
+    };
+    let mut host = Host::new(65_536);
+    let (mut sound, mut unsound) = (0, 0);
+    for _ in 0..20_000 {
+        let transaction = id(below(12) as u8);
+        let rm = id(below(5) as u8);
+        let number = below(60) as u32;
+        let vote = VOTES[(below(8) / 3) % 3];
+        let event = match below(16) {
+            0 => Event::Begin { transaction },
+            1..=4 => {
+                let (kind, single) = (KINDS[below(3)], below(2) == 0);
+                Event::Enlist {
+                    transaction,
+                    number,
+                    rm,
+                    kind,
+                    single,
+                }
+            }
+            5 => Event::Commit { transaction },
+            6 | 7 => Event::ZeroDone { number },
+            8..=11 => Event::Vote { number, vote },
+            12 => Event::Ack { number },
+            13 => Event::Reply {
+                number,
+                reply: Reply::Committed,
+            },
+            14 if below(4) == 0 => Event::Lost { number },
+            _ => Event::Ask { transaction, rm },
+        };
+        let _ = host.step(event);
+        assert!(plainly_sound(&host.table));
+
+        // One or two fields of places in use, mostly, set to something else.
+        let mut table = host.table.clone();
+        for _ in 0..1 + below(2) {
+            let anywhere = below(9) == 0;
+            let e = below(if anywhere { 128 } else { 24 });
+            let t = below(if anywhere { 32 } else { 9 });
+            match below(11) {
+                0 => table.transactions[t].id = id(below(12) as u8),
+                1 | 2 => table.transactions[t].state = TRANSACTION_STATES[below(7)],
+                3 => table.enlistments[e].transaction = id(below(12) as u8),
+                4 => table.enlistments[e].rm = id(below(5) as u8),
+                5 => table.enlistments[e].number = below(60) as u32,
+                6 => table.enlistments[e].kind = KINDS[below(3)],
+                7 => table.enlistments[e].single ^= true,
+                8 | 9 => table.enlistments[e].state = STATES[below(11)],
+                _ if below(8) == 0 => table.used = below(9),
+                _ => table.capacity = table.used + below(80),
+            }
+        }
+        assert_eq!(table.is_sound(), plainly_sound(&table), "{table:?}");
+        *(if table.is_sound() {
+            &mut sound
+        } else {
+            &mut unsound
+        }) += 1;
+    }
+    assert!(sound > 2_000 && unsound > 2_000, "{sound} {unsound}");
+}
+
+#[test]
+fn soundness_of_more_than_16() {
+    let mut host = host_of_15();
+    host.take_all(&[
+        "enlist 1 16 16 durable",
+        "begin 2",
+        "enlist 2 17 17 durable",
+    ]);
+    assert!(host.table.is_sound() && plainly_sound(&host.table));
+    host.table.enlistments[16].transaction = id(1);
+    assert!(!host.table.is_sound() && !plainly_sound(&host.table));
 }

@@ -24,7 +24,9 @@ pub fn parse(line: &[u8]) -> Option<Command> {
     }
     let mut words = line.split(|&byte| byte == b' ');
     let command = Command::Step(match words.next()? {
-        b"begin" => Event::Begin { transaction: id(words.next()?)? },
+        b"begin" => Event::Begin {
+            transaction: id(words.next()?)?,
+        },
         b"enlist" => Event::Enlist {
             transaction: id(words.next()?)?,
             number: number(words.next()?)?,
@@ -41,9 +43,15 @@ pub fn parse(line: &[u8]) -> Option<Command> {
                 Some(_) => return None,
             },
         },
-        b"commit" => Event::Commit { transaction: id(words.next()?)? },
-        b"rollback" => Event::Rollback { transaction: id(words.next()?)? },
-        b"zdone" => Event::ZeroDone { number: number(words.next()?)? },
+        b"commit" => Event::Commit {
+            transaction: id(words.next()?)?,
+        },
+        b"rollback" => Event::Rollback {
+            transaction: id(words.next()?)?,
+        },
+        b"zdone" => Event::ZeroDone {
+            number: number(words.next()?)?,
+        },
         b"vote" => Event::Vote {
             number: number(words.next()?)?,
             vote: match words.next()? {
@@ -62,10 +70,19 @@ pub fn parse(line: &[u8]) -> Option<Command> {
                 _ => return None,
             },
         },
-        b"ack" => Event::Ack { number: number(words.next()?)? },
-        b"lost" => Event::Lost { number: number(words.next()?)? },
-        b"ask" => Event::Ask { transaction: id(words.next()?)?, rm: id(words.next()?)? },
-        b"reenlisted" => Event::Reenlisted { rm: id(words.next()?)? },
+        b"ack" => Event::Ack {
+            number: number(words.next()?)?,
+        },
+        b"lost" => Event::Lost {
+            number: number(words.next()?)?,
+        },
+        b"ask" => Event::Ask {
+            transaction: id(words.next()?)?,
+            rm: id(words.next()?)?,
+        },
+        b"reenlisted" => Event::Reenlisted {
+            rm: id(words.next()?)?,
+        },
         b"restart" => return words.next().is_none().then_some(Command::Restart),
         _ => return None,
     });
@@ -117,7 +134,12 @@ impl Trace {
     pub fn new(test_soundness: bool) -> Self {
         let mut log = vec![0; CAPACITY];
         let table = restart(&mut log, 0).expect("an empty log restarts");
-        Self { table, log, signals: Signals::default(), test_soundness }
+        Self {
+            table,
+            log,
+            signals: Signals::default(),
+            test_soundness,
+        }
     }
 
     /// Takes one line (`None`: too long) and adds its output to `out`.
@@ -125,7 +147,11 @@ impl Trace {
         self.signals.clear();
         let result = match line.and_then(parse) {
             Some(Command::Step(event)) => {
-                let step = if self.test_soundness { step } else { step_on_sound };
+                let step = if self.test_soundness {
+                    step
+                } else {
+                    step_on_sound
+                };
                 step(&mut self.table, &mut self.log, event, &mut self.signals)
             }
             Some(Command::Restart) => self.restart(),
@@ -214,7 +240,12 @@ pub fn run(
         line.clear();
         // Room for the longest line and its newline.
         let limit = LONGEST_LINE + 1;
-        if input.by_ref().take(limit as u64).read_until(b'\n', &mut line)? == 0 {
+        if input
+            .by_ref()
+            .take(limit as u64)
+            .read_until(b'\n', &mut line)?
+            == 0
+        {
             break;
         }
         if line.last() == Some(&b'\n') {

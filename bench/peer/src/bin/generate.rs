@@ -123,10 +123,23 @@ impl Mix {
                 ..mixed
             }),
             // Many D, so that the log is soon full.
-            "full-log" => Some(Self { durable: 800, zero: 80, single: 150, ..mixed }),
+            "full-log" => Some(Self {
+                durable: 800,
+                zero: 80,
+                single: 150,
+                ..mixed
+            }),
             // Few D, so that the log lasts longer.
-            "long-log" => Some(Self { durable: 130, restart: 2, ..mixed }),
-            "noisy" => Some(Self { unreadable: 150, blind: 350, ..mixed }),
+            "long-log" => Some(Self {
+                durable: 130,
+                restart: 2,
+                ..mixed
+            }),
+            "noisy" => Some(Self {
+                unreadable: 150,
+                blind: 350,
+                ..mixed
+            }),
             _ => None,
         }
     }
@@ -194,7 +207,10 @@ impl Model {
 
     fn find_held(&self, number: u32) -> Option<(usize, usize)> {
         self.live.iter().enumerate().find_map(|(t, live)| {
-            live.held.iter().position(|held| held.number == number).map(|e| (t, e))
+            live.held
+                .iter()
+                .position(|held| held.number == number)
+                .map(|e| (t, e))
         })
     }
 
@@ -207,23 +223,37 @@ impl Model {
         match event {
             Event::Begin(id) => {
                 if id != 0 && self.find(id).is_none() && self.live.len() < 32 {
-                    self.live.push(Live { id, state: 1, held: Vec::new() });
+                    self.live.push(Live {
+                        id,
+                        state: 1,
+                        held: Vec::new(),
+                    });
                 }
             }
             Event::Enlist(id, number, rm, kind, single) => {
                 let full = self.held() >= 128 || self.taken(number) || number == 0 || rm == 0;
-                let Some(t) = self.find(id).filter(|_| !full) else { return };
+                let Some(t) = self.find(id).filter(|_| !full) else {
+                    return;
+                };
                 let live = &mut self.live[t];
                 let second = |held: &Held| held.kind == Kind::D && held.rm == rm;
                 let twice = kind == Kind::D && live.held.iter().any(second);
                 if live.state <= 2 && live.held.len() < 16 && !twice {
                     let state = if kind == Kind::P { live.state } else { 1 };
                     let single = kind != Kind::P && single != Some(false);
-                    live.held.push(Held { number, rm, kind, single, state });
+                    live.held.push(Held {
+                        number,
+                        rm,
+                        kind,
+                        single,
+                        state,
+                    });
                 }
             }
             Event::Commit(id) => {
-                let Some(t) = self.find(id).filter(|&t| self.live[t].state == 1) else { return };
+                let Some(t) = self.find(id).filter(|&t| self.live[t].state == 1) else {
+                    return;
+                };
                 let live = &mut self.live[t];
                 for held in live.held.iter_mut().filter(|held| held.kind == Kind::P) {
                     held.state = 2;
@@ -245,7 +275,9 @@ impl Model {
                 }
             }
             Event::Vote(number, vote) => {
-                let Some((t, e)) = self.find_held(number) else { return };
+                let Some((t, e)) = self.find_held(number) else {
+                    return;
+                };
                 if self.live[t].held[e].state != 3 {
                     return;
                 }
@@ -275,7 +307,9 @@ impl Model {
                 }
             }
             Event::Lost(number) => {
-                let Some((t, e)) = self.find_held(number) else { return };
+                let Some((t, e)) = self.find_held(number) else {
+                    return;
+                };
                 let held = &mut self.live[t].held[e];
                 match (held.state, held.kind) {
                     (4, Kind::D) => held.state = 5,
@@ -357,7 +391,11 @@ impl Model {
         if self.live[t].held.iter().any(|held| held.state == 3) {
             return;
         }
-        let n = self.live[t].held.iter().filter(|held| held.kind == Kind::D).count();
+        let n = self.live[t]
+            .held
+            .iter()
+            .filter(|held| held.kind == Kind::D)
+            .count();
         if n > 0 {
             let open = self.live.iter().filter(|live| live.open()).count();
             if 4096 - self.used < 18 + 20 * n + 18 * (1 + open) {
@@ -366,7 +404,10 @@ impl Model {
             self.used += 18 + 20 * n;
         }
         self.live[t].state = 5;
-        self.live[t].held.iter_mut().for_each(|held| held.state += 3);
+        self.live[t]
+            .held
+            .iter_mut()
+            .for_each(|held| held.state += 3);
         self.sweep(t);
     }
 
@@ -451,9 +492,9 @@ impl Generator {
         let past = self.model.live.iter().position(|live| live.state > 1);
         let t = match past {
             Some(past) if self.mix.brim && self.random.chance(600) => past,
-            _ if self.random.chance(150) => {
-                (0..live).max_by_key(|&t| self.model.live[t].held.len()).unwrap_or(0)
-            }
+            _ if self.random.chance(150) => (0..live)
+                .max_by_key(|&t| self.model.live[t].held.len())
+                .unwrap_or(0),
             _ => self.random.below(live),
         };
         if self.mix.brim && self.model.live[t].state == 1 {
@@ -489,7 +530,11 @@ impl Generator {
         if self.random.chance(5) {
             number = u32::MAX - self.random.between(0, 2);
         }
-        let mut rm = if self.random.chance(250) { 1 } else { self.random.between(1, 6) };
+        let mut rm = if self.random.chance(250) {
+            1
+        } else {
+            self.random.between(1, 6)
+        };
         let roll = self.random.below(1000);
         let mut kind = if roll < self.mix.durable {
             Kind::D
@@ -499,7 +544,11 @@ impl Generator {
             Kind::V
         };
         let live = &self.model.live[t];
-        let second = |rm| live.held.iter().any(|held| held.kind == Kind::D && held.rm == rm);
+        let second = |rm| {
+            live.held
+                .iter()
+                .any(|held| held.kind == Kind::D && held.rm == rm)
+        };
         if kind == Kind::D && second(rm) {
             match (1..=6).find(|&other| !second(other)) {
                 Some(other) if !self.random.chance(20) => rm = other,
@@ -517,18 +566,24 @@ impl Generator {
 
     /// Whether to enlist into transaction `t` now.
     fn wants_enlist(&mut self, t: usize, share: usize) -> bool {
-        let crowded =
-            self.model.held() >= self.mix.held || self.model.live[t].held.len() >= 16;
+        let crowded = self.model.held() >= self.mix.held || self.model.live[t].held.len() >= 16;
         // A few tries where there is no room; few stay without any.
         let none = self.model.live[t].held.is_empty();
-        self.random.chance(if crowded { 30 } else { share + usize::from(none) * (950 - share) })
+        self.random.chance(if crowded {
+            30
+        } else {
+            share + usize::from(none) * (950 - share)
+        })
     }
 
     /// The number of one of `t`'s enlistments in one of the states.
     fn one_in(&mut self, t: usize, states: &[u8]) -> Option<u32> {
         let held = &self.model.live[t].held;
-        let fitting: Vec<u32> =
-            held.iter().filter(|held| states.contains(&held.state)).map(|h| h.number).collect();
+        let fitting: Vec<u32> = held
+            .iter()
+            .filter(|held| states.contains(&held.state))
+            .map(|h| h.number)
+            .collect();
         (!fitting.is_empty()).then(|| self.random.pick(&fitting))
     }
 
@@ -544,7 +599,11 @@ impl Generator {
         if rms.is_empty() && !self.random.chance(100) {
             return Event::Ask(self.random.between(41, 60), self.random.between(1, 6));
         }
-        let rm = if rms.is_empty() { 1 } else { self.random.pick(&rms) };
+        let rm = if rms.is_empty() {
+            1
+        } else {
+            self.random.pick(&rms)
+        };
         Event::Ask(live.id, rm)
     }
 
@@ -568,9 +627,13 @@ impl Generator {
         }
         match self.random.below(100) {
             0..=3 => Event::Rollback(id),
-            4..=7 => self.one_in(t, &[1, 2]).map_or(Event::Rollback(id), Event::Lost),
+            4..=7 => self
+                .one_in(t, &[1, 2])
+                .map_or(Event::Rollback(id), Event::Lost),
             8..=12 => self.ask(t),
-            _ => self.one_in(t, &[2]).map_or(Event::Rollback(id), Event::Zdone),
+            _ => self
+                .one_in(t, &[2])
+                .map_or(Event::Rollback(id), Event::Zdone),
         }
     }
 
@@ -585,7 +648,9 @@ impl Generator {
             0..=2 => Event::Lost(preparing),
             3..=12 => {
                 // Mostly a prepared D: a V would abort it all.
-                let lost = self.one_in(t, &[4]).and_then(|number| self.model.find_held(number));
+                let lost = self
+                    .one_in(t, &[4])
+                    .and_then(|number| self.model.find_held(number));
                 match lost.map(|(t, e)| self.model.live[t].held[e]) {
                     Some(held) if held.kind == Kind::D || self.random.chance(200) => {
                         Event::Lost(held.number)
@@ -611,7 +676,11 @@ impl Generator {
         let failed = self.one_in(t, &[8]);
         if self.storm > 0 {
             if let Some(told) = self.one_in(t, &[7]) {
-                return if self.random.chance(200) { Event::Ack(told) } else { Event::Lost(told) };
+                return if self.random.chance(200) {
+                    Event::Ack(told)
+                } else {
+                    Event::Lost(told)
+                };
             }
         }
         match (self.one_in(t, &[7]), failed, self.random.below(100)) {
@@ -643,7 +712,11 @@ impl Generator {
     fn blind(&mut self) -> Event {
         let random = &mut self.random;
         let small = |random: &mut Random, high| {
-            if random.chance(40) { 0 } else { random.between(1, high) }
+            if random.chance(40) {
+                0
+            } else {
+                random.between(1, high)
+            }
         };
         let t = small(random, 40);
         let n = small(random, 200);
@@ -654,7 +727,11 @@ impl Generator {
             3 => Event::Commit(t),
             4 => {
                 // A blind rollback or lost that hits undoes much: rarer.
-                if random.chance(400) { Event::Rollback(t) } else { Event::Lost(n) }
+                if random.chance(400) {
+                    Event::Rollback(t)
+                } else {
+                    Event::Lost(n)
+                }
             }
             5 => Event::Zdone(n),
             6 => Event::Vote(n, random.pick(&VOTES)),
@@ -675,12 +752,19 @@ impl Generator {
             2 => line.insert(0, b' '),
             3 => line.push(b'\r'),
             4 => line.extend(b" 1"),
-            5 => line = line.iter().flat_map(|&b| vec![b; 1 + usize::from(b == b' ')]).collect(),
+            5 => {
+                line = line
+                    .iter()
+                    .flat_map(|&b| vec![b; 1 + usize::from(b == b' ')])
+                    .collect()
+            }
             6 => line = text(event).replacen(' ', " 0", 1).into_bytes(),
             7 => line[0] = line[0].to_ascii_uppercase(),
             8 => line.truncate(random.below(4)),
             9 => line = format!("begin {}", random.between(256, 300)).into_bytes(),
-            10 => line = format!("ack {}", u64::from(u32::MAX) + 1 + random.next() % 9).into_bytes(),
+            10 => {
+                line = format!("ack {}", u64::from(u32::MAX) + 1 + random.next() % 9).into_bytes()
+            }
             11 => line.resize(60 + random.below(10), b' '),
             12 => line.resize(65 + random.below(3000), b'7'),
             _ => {
@@ -729,8 +813,17 @@ fn write_trace(
     last_newline: bool,
     mut output: impl Write,
 ) -> io::Result<()> {
-    let model = Model { live: Vec::new(), used: 8 };
-    let mut generator = Generator { random, mix, model, storm: 0, queue: Vec::new() };
+    let model = Model {
+        live: Vec::new(),
+        used: 8,
+    };
+    let mut generator = Generator {
+        random,
+        mix,
+        model,
+        storm: 0,
+        queue: Vec::new(),
+    };
     for line in 1..=lines {
         let roll = generator.random.below(1000);
         let bytes = if roll < mix.unreadable {
@@ -788,7 +881,10 @@ fn random_log(random: &mut Random) -> (usize, usize, Vec<u8>) {
             log.extend(id);
             continue;
         }
-        let entries: Vec<u32> = open.iter().flat_map(|(_, numbers)| numbers.clone()).collect();
+        let entries: Vec<u32> = open
+            .iter()
+            .flat_map(|(_, numbers)| numbers.clone())
+            .collect();
         let n = 1 + random.below(most);
         if (open.len() >= 32 || entries.len() + n > 128) && !random.chance(60) {
             continue;
