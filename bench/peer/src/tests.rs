@@ -937,3 +937,135 @@ fn soundness_of_more_than_16() {
     host.table.enlistments[16].transaction = id(1);
     assert!(!host.table.is_sound() && !plainly_sound(&host.table));
 }
+
+/// All that can be reached with one transaction, two RMs and three numbers,
+/// on a log with room for one commit record of two: every table is sound
+/// (`step` tests it), a restart finds just what is open, and between Begin
+/// and end no committed message goes with an aborted one.
+#[test]
+#[ignore = "takes a while: run with --profile checked"]
+fn small_world() {
+    use std::collections::hash_map::DefaultHasher;
+    use std::collections::HashSet;
+    use std::hash::{Hash, Hasher};
+
+    let transaction = id(1);
+    let mut events = vec![
+        Event::Begin { transaction },
+        Event::Commit { transaction },
+        Event::Rollback { transaction },
+    ];
+    for rm in [id(1), id(2)] {
+        events.extend([Event::Ask { transaction, rm }, Event::Reenlisted { rm }]);
+        for number in 1..=3 {
+            for (kind, single) in [
+                (Kind::PhaseZero, true),
+                (Kind::Volatile, true),
+                (Kind::Volatile, false),
+                (Kind::Durable, true),
+                (Kind::Durable, false),
+            ] {
+                events.push(Event::Enlist {
+                    transaction,
+                    number,
+                    rm,
+                    kind,
+                    single,
+                });
+            }
+        }
+    }
+    for number in 1..=3 {
+        events.extend([
+            Event::ZeroDone { number },
+            Event::Ack { number },
+            Event::Lost { number },
+            Event::Vote {
+                number,
+                vote: Vote::Prepared,
+            },
+            Event::Vote {
+                number,
+                vote: Vote::ReadOnly,
+            },
+            Event::Vote {
+                number,
+                vote: Vote::Aborted,
+            },
+            Event::Reply {
+                number,
+                reply: Reply::Committed,
+            },
+            Event::Reply {
+                number,
+                reply: Reply::Aborted,
+            },
+            Event::Reply {
+                number,
+                reply: Reply::InDoubt,
+            },
+        ]);
+    }
+
+    /// What is held, without the order of places, and the log.
+    fn print_of(table: &Table, log: &[u8], told: (bool, bool)) -> u64 {
+        let mut held: Vec<_> = table
+            .enlistments
+            .iter()
+            .filter(|e| e.number != 0)
+            .map(|e| {
+                (
+                    e.number,
+                    e.rm.to_bytes(),
+                    e.kind as u8,
+                    e.single,
+                    e.state as u8,
+                )
+            })
+            .collect();
+        held.sort_unstable();
+        let mut hasher = DefaultHasher::new();
+        let state = table.transactions.map(|t| t.state as u8);
+        (held, state, &log[..table.used], told).hash(&mut hasher);
+        hasher.finish()
+    }
+
+    let host = Host::new(84);
+    let mut seen = HashSet::from([print_of(&host.table, &host.log, (false, false))]);
+    let mut stack = vec![(host.table, host.log, (false, false))];
+    let mut signals = Signals::default();
+    let mut accepted = 0u64;
+    while let Some((table, log, told)) = stack.pop() {
+        // A crash at this moment, and then all the events.
+        let mut after = log.clone();
+        let crashed = restart(&mut after, table.used).unwrap();
+        assert_eq!((after, crashed.used), (log.clone(), table.used));
+        assert_eq!(crashed.open_count(), table.open_count());
+        let mut next = vec![(crashed, log.clone(), told)];
+        for &event in &events {
+            let (mut table, mut log, mut told) = (table.clone(), log.clone(), told);
+            let live = table.find_transaction(transaction).is_some();
+            if step(&mut table, &mut log, event, &mut signals).is_err() {
+                continue;
+            }
+            accepted += 1;
+            for (signal, _) in signals.iter().filter(|_| live) {
+                use Signal::*;
+                told.0 |= matches!(signal, Commit | AppCommitted | AnswerCommitted);
+                told.1 |= matches!(signal, Abort | AppAborted | AnswerAborted);
+            }
+            assert!(told != (true, true), "committed and aborted: {event:?}");
+            next.push((table, log, told));
+        }
+        for (table, log, mut told) in next {
+            if table.find_transaction(transaction).is_none() {
+                told = (false, false);
+            }
+            assert!(table.is_sound());
+            if seen.insert(print_of(&table, &log, told)) {
+                stack.push((table, log, told));
+            }
+        }
+    }
+    println!("{} states, {accepted} accepted steps", seen.len());
+}
