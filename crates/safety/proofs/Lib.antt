@@ -1,0 +1,4 @@
+pub mod Alone
+pub mod Move
+pub mod Cut
+pub mod Top
