@@ -2,3 +2,4 @@ pub mod Alone
 pub mod Move
 pub mod Cut
 pub mod Top
+pub mod Log
