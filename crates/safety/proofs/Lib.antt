@@ -3,3 +3,4 @@ pub mod Move
 pub mod Cut
 pub mod Top
 pub mod Log
+pub mod Story
