@@ -1,3 +1,4 @@
 pub mod Computing
+pub mod Frames
 pub mod Bytes
 pub mod Identifiers
