@@ -246,20 +246,21 @@ module _ {A : Type 0} (alike : A → A → Bool) {R : A → A → Type 0} where
 
 -- ── every ───────────────────────────────────────────────────────────────────────────────────────────────────────
 
--- each of these holds, as a tuple to be taken apart or given
-abbrev pub Holding : List Bool → Type 0
-Holding [] = Unit {0}
-Holding (b ∷ bs) = (b ≡ true) × Holding bs
+-- each of these holds: `p also q also that-is-all`, to be given or to be taken apart
+infixr 20 _also_
+pub data Holding : List Bool → Type 0 where
+  that-is-all : Holding []
+  _also_ : {b : Bool} {bs : List Bool} → b ≡ true → Holding bs → Holding (b ∷ bs)
 
 pub every-holding : (bs : List Bool) → every bs ≡ true → Holding bs
 unfolding every
-every-holding [] e = tt
-every-holding (b ∷ bs) e = (true-and b (every bs) e .0, every-holding bs (true-and b (every bs) e .1))
+every-holding [] e = that-is-all
+every-holding (b ∷ bs) e = true-and b (every bs) e .0 also every-holding bs (true-and b (every bs) e .1)
 
-pub holding-every : (bs : List Bool) → Holding bs → every bs ≡ true
+pub holding-every : {bs : List Bool} → Holding bs → every bs ≡ true
 unfolding every
-holding-every [] h = refl
-holding-every (b ∷ bs) h = and-true (h .0) (holding-every bs (h .1))
+holding-every that-is-all = refl
+holding-every (p also h) = and-true p (holding-every h)
 
 -- the one at index n
 pub every-at : (bs : List Bool) (n : ℕ) → every bs ≡ true → getD bs n true ≡ true

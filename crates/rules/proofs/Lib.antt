@@ -2,3 +2,4 @@ pub mod Computing
 pub mod Frames
 pub mod Bytes
 pub mod Identifiers
+pub mod Soundness
