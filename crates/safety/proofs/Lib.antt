@@ -4,3 +4,4 @@ pub mod Cut
 pub mod Top
 pub mod Log
 pub mod Story
+pub mod View
