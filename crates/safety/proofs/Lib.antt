@@ -5,3 +5,4 @@ pub mod Top
 pub mod Log
 pub mod Story
 pub mod View
+pub mod Given
