@@ -6,3 +6,4 @@ pub mod Log
 pub mod Story
 pub mod View
 pub mod Given
+pub mod Messages
