@@ -7,3 +7,4 @@ pub mod Story
 pub mod View
 pub mod Given
 pub mod Messages
+pub mod Own

@@ -73,7 +73,7 @@ view-more u n tb = refl
 
 -- ── the transaction at p itself ─────────────────────────────────────────────────────────────────────────────────
 
-stands-held : (t : Id) (p q : ℕ) (g : Enlistment → Enlistment) (tb : Table) → Stands t p tb → Stands t p (changeHeld q g tb)
+pub stands-held : (t : Id) (p q : ℕ) (g : Enlistment → Enlistment) (tb : Table) → Stands t p tb → Stands t p (changeHeld q g tb)
 unfolding changeHeld
 stands-held t p q g tb s = record { here = s .here; alone = s .alone }
 
