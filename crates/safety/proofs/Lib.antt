@@ -8,3 +8,4 @@ pub mod View
 pub mod Given
 pub mod Messages
 pub mod Own
+pub mod Reactions

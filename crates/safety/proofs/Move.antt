@@ -91,7 +91,7 @@ module _ (t : Id) where
     abort : {v v′ : View} → l′ ≡ l → Doomed v → Gone v′ → (New t Committed ms → ⊥) → Move h x ms l l′ v v′
     replied : {es : List Enlistment} {n₀ : ℕ} → l′ ≡ l → x ≡ Note.replied t n₀ reply.Committed → Some (λ e. e .number ≡ n₀) es → (New t Aborted ms → ⊥) → Move h x ms l l′ (single es) out
     -- ack, lost, ask, re-enlisted after the decision to commit
-    told : {es es′ : List Enlistment} → l′ ≡ l → Calm x → (New t Aborted ms → ⊥)
+    told-on : {es es′ : List Enlistment} → l′ ≡ l → Calm x → (New t Aborted ms → ⊥)
         → ((r : Id) → Some (Waits r) es → Some (Waits r) es′ ⊎ Closes t r x)
         → (Some Durable es → Some Durable es′) → (NoDurable es → NoDurable es′)
         → Move h x ms l l′ (committing es) (committing es′)
@@ -401,7 +401,7 @@ module _ (t : Id) where
       where
         is-it : s .number ≡ n₀
         is-it = sym (s .numbers (w .it) (w .there)) ∙ w .holds
-    keep-base b s (told e c na f g d) =
+    keep-base b s (told-on e c na f g d) =
         make-calm b (s .begun) c (rw e (b .fine)) (below-same e) (rw e (asks-calm h l (c .not-prepared) (b .asks))) (inl (s .good)) (λ _ a. no-aborted′ na (s .no-aborted) a) (λ _. told-waits c s e)
     keep-base b s (end-logged e c q f) =
         make-calm b (s .begun) c (rw e closed-fine) (rw e (below-closed l (b .fine))) (rw e (close-all c (s .wait) f)) (inl (s .good)) (λ _ a. no-aborted′ (q .no-aborted) (s .no-aborted) a) (λ m. absurd (q .no-committed m))
@@ -538,7 +538,7 @@ module _ (t : Id) where
     keep-shape b s (decide-empty e ne na f g) = out-shape (none-not-open (e ∙ s .undecided .log-none)) (λ r m. g r (hoping s r m))
     keep-shape b s (abort e d g nc) = gone-shape (doom d s) e g nc
     keep-shape b s (replied e xe w na) = out-shape (none-not-open (e ∙ s .undecided .log-none)) (no-ask-calm (replied-calm xe .not-prepared) (s .no-ask))
-    keep-shape b s (told e c na f g d) = told-shape s e c na f g d
+    keep-shape b s (told-on e c na f g d) = told-shape s e c na f g d
     keep-shape b s (end-logged e c q f) = out-shape (closed-not-open e) (close-all c (s .wait) f)
     keep-shape b s (end-unlogged e c q d) = out-shape
         (λ rs p. ⊎-elim (λ o. d (o .2 .it) (o .2 .there) (o .2 .holds)) (λ o. none-not-open (e ∙ o .0) rs p) (s .record-or-none))

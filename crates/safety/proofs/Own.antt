@@ -37,7 +37,7 @@ use Rattle.safety.specs.Host.{Prepares, Closes, careful, Makes}
 use Rattle.safety.specs.Demand3.{Committed, Aborted}
 use Rattle.safety.proofs.Alone as alone
 use Rattle.safety.proofs.Alone.{Story, closed, View, out, early, voting, aborting, Hopes, Waits, Unasked, Preparing, NoDurable, New}
-use Rattle.safety.proofs.Move.{Calm, NotEnlisted, VoteOf, Doomed, d-voting, d-aborting, Gone, g-out, g-aborting, Move, prepare, ask-one, commit-empty, decide-logged, decide-unlogged, decide-empty, abort, told, end-logged, end-unlogged}
+use Rattle.safety.proofs.Move.{Calm, NotEnlisted, VoteOf, Doomed, d-voting, d-aborting, Gone, g-out, g-aborting, Move, prepare, ask-one, commit-empty, decide-logged, decide-unlogged, decide-empty, abort, told-on, end-logged, end-unlogged}
 use Rattle.safety.proofs.Top.{Agrees}
 use Rattle.safety.proofs.Log.{Valid, AllValid, ValidEntry, ValidEntries, entries-length}
 use Rattle.safety.proofs.Story.{next, story, managersOf, onForget}
@@ -97,15 +97,15 @@ module _ (tb : Table) (e : Event) (log : List ℕ) (t : Id) (p : ℕ) (tb₁ : T
 
   -- ── ends of which no record is written ────────────────────────────────────────────────────────────────────────
 
-  used-emptied : (tb₂ : Table) → emptied p tb₂ .used ≡ tb₂ .used
+  pub used-emptied : (tb₂ : Table) → emptied p tb₂ .used ≡ tb₂ .used
   unfolding changeHeld changeTransaction
   used-emptied tb₂ = refl
 
-  used-goes : (s : ℕ) (f : Enlistment → Enlistment) (tb₂ : Table) → goTo p s (changeHeld p f tb₂) .used ≡ tb₂ .used
+  pub used-goes : (s : ℕ) (f : Enlistment → Enlistment) (tb₂ : Table) → goTo p s (changeHeld p f tb₂) .used ≡ tb₂ .used
   unfolding changeHeld changeTransaction
   used-goes s f tb₂ = refl
 
-  ends-for : (tb₂ : Table) → Stands t p tb₂ → (u : Id) → (u ≡ t → ⊥) → viewOf u (emptied p tb₂) ≡ viewOf u tb₂
+  pub ends-for : (tb₂ : Table) → Stands t p tb₂ → (u : Id) → (u ≡ t → ⊥) → viewOf u (emptied p tb₂) ≡ viewOf u tb₂
   ends-for tb₂ s u d = ends-other u p tb₂ (named-other t u (transactionAt p tb₂) (s .here) d)
 
   pub unlogged-end : (tb₂ : Table) → (stateAt p tb₂ ≡ transaction.committing → ⊥) → endOf p tb₂ log ≡ quietly (emptied p tb₂) log
@@ -327,7 +327,7 @@ module _ (tb : Table) (e : Event) (log : List ℕ) (t : Id) (p : ℕ) (tb₁ : T
 
     end-waits : viewOf t tb₁ ≡ alone.committing hs₁ → O (quietly tb₁ log)
     end-waits isv₁ = unlogged tb₁ [] (addressed-nothing tb e) refl (λ u n. refl)
-        (λ h f l a. rw (isv, isv₁) (told refl (w .calm) (none-aborted t tb e [] (only-nothing notAborted)) (w .waits) (w .durable) (w .no-durable)))
+        (λ h f l a. rw (isv, isv₁) (told-on refl (w .calm) (none-aborted t tb e [] (only-nothing notAborted)) (w .waits) (w .durable) (w .no-durable)))
 
     pub own-end-committing : viewOf t tb₁ ≡ alone.committing hs₁ → (any isDurable hs₁ ≡ true → tb₁ .used + forgetSize ≤ length log) → O (endIfDone p tb₁ log)
     unfolding endIfDone endOf
