@@ -60,6 +60,25 @@ pub record Own (tb : Table) (e : Event) (log : List ℕ) (t : Id) (o : Outcome) 
   pub move : (h : List Note) → Makes careful h e → (l : Story) → Agrees (viewOf t tb) l
       → Move t h (noteOf tb e) (map (messageOf tb e) (o .signals)) l (story t l records) (viewOf t tb) (viewOf t (o .table))
 
+-- ── ends of which no record is written ──────────────────────────────────────────────────────────────────────────
+
+pub used-emptied : (p : ℕ) (tb : Table) → emptied p tb .used ≡ tb .used
+unfolding changeHeld changeTransaction
+used-emptied p tb = refl
+
+used-goes : (p s : ℕ) (f : Enlistment → Enlistment) (tb : Table) → goTo p s (changeHeld p f tb) .used ≡ tb .used
+unfolding changeHeld changeTransaction
+used-goes p s f tb = refl
+
+pub ends-for : (t : Id) (p : ℕ) (tb : Table) → Stands t p tb → (u : Id) → (u ≡ t → ⊥) → viewOf u (emptied p tb) ≡ viewOf u tb
+ends-for t p tb s u d = ends-other u p tb (named-other t u (transactionAt p tb) (s .here) d)
+
+pub unlogged-end : (p : ℕ) (tb : Table) (log : List ℕ) → (stateAt p tb ≡ transaction.committing → ⊥) → endOf p tb log ≡ quietly (emptied p tb) log
+unfolding endOf
+unlogged-end p tb log n = rw (ne-eqb (stateAt p tb) transaction.committing n) refl
+
+-- ── what an event does to its own transaction ───────────────────────────────────────────────────────────────────
+
 -- the table after the event's own enlistment has changed
 pub record Touched (t : Id) (p : ℕ) (tb tb₁ : Table) : Type 0 where
   pub used : tb₁ .used ≡ tb .used
@@ -95,23 +114,6 @@ module _ (tb : Table) (e : Event) (log : List ℕ) (t : Id) (p : ℕ) (tb₁ : T
     records = []; valid = tt; bytes = rw (us ∙ z .used) nothing-added; other-story = λ u d s. refl; other-view = λ u d. ov u d ∙ z .other-view u d;
     addressed = ad; move = mv }
 
-  -- ── ends of which no record is written ────────────────────────────────────────────────────────────────────────
-
-  pub used-emptied : (tb₂ : Table) → emptied p tb₂ .used ≡ tb₂ .used
-  unfolding changeHeld changeTransaction
-  used-emptied tb₂ = refl
-
-  pub used-goes : (s : ℕ) (f : Enlistment → Enlistment) (tb₂ : Table) → goTo p s (changeHeld p f tb₂) .used ≡ tb₂ .used
-  unfolding changeHeld changeTransaction
-  used-goes s f tb₂ = refl
-
-  pub ends-for : (tb₂ : Table) → Stands t p tb₂ → (u : Id) → (u ≡ t → ⊥) → viewOf u (emptied p tb₂) ≡ viewOf u tb₂
-  ends-for tb₂ s u d = ends-other u p tb₂ (named-other t u (transactionAt p tb₂) (s .here) d)
-
-  pub unlogged-end : (tb₂ : Table) → (stateAt p tb₂ ≡ transaction.committing → ⊥) → endOf p tb₂ log ≡ quietly (emptied p tb₂) log
-  unfolding endOf
-  unlogged-end tb₂ n = rw (ne-eqb (stateAt p tb₂) transaction.committing n) refl
-
   -- ── abort ─────────────────────────────────────────────────────────────────────────────────────────────────────
 
   keeps-aborted : Keeps abortedOf
@@ -120,11 +122,11 @@ module _ (tb : Table) (e : Event) (log : List ℕ) (t : Id) (p : ℕ) (tb₁ : T
 
   pub own-abort : Doomed t (viewOf t tb) → O (abortOf p tb₁ log)
   unfolding abortOf endIfDone
-  own-abort d = rw (unlogged-end tb₂ (λ q. six-five (sym (state-goes t p transaction.aborting (changeHeld p abortedOf tb₁) (stands-held t p p abortedOf tb₁ (z .stands))) ∙ q)))
+  own-abort d = rw (unlogged-end p tb₂ log (λ q. six-five (sym (state-goes t p transaction.aborting (changeHeld p abortedOf tb₁) (stands-held t p p abortedOf tb₁ (z .stands))) ∙ q)))
       (by-cases (λ o. O (saying ss o)) (all isDone (held p tb₂)) (quietly (emptied p tb₂) log) (quietly tb₂ log)
-        (λ _. unlogged (emptied p tb₂) ss addressed (used-emptied tb₂ ∙ used-goes transaction.aborting abortedOf tb₁) (λ u n. ends-for tb₂ at u n ∙ others u n)
+        (λ _. unlogged (emptied p tb₂) ss addressed (used-emptied p tb₂ ∙ used-goes p transaction.aborting abortedOf tb₁) (λ u n. ends-for t p tb₂ at u n ∙ others u n)
           (λ h f l a. rw (view-ends t p tb₂ at) (abort refl d g-out silent)))
-        (λ _. unlogged tb₂ ss addressed (used-goes transaction.aborting abortedOf tb₁) others
+        (λ _. unlogged tb₂ ss addressed (used-goes p transaction.aborting abortedOf tb₁) others
           (λ h f l a. rw (view-goes t p tb₁ (z .stands) transaction.aborting abortedOf (λ q. omega arith)) (abort refl d g-aborting silent))))
     where
       tb₂ : Table
@@ -207,11 +209,11 @@ module _ (tb : Table) (e : Event) (log : List ℕ) (t : Id) (p : ℕ) (tb₁ : T
 
     decide-none : (stateAt p tb₁ ≡ transaction.committing → ⊥) → eqb (length hs₁) 0 ≡ true → O (endCommitted p tb₁ log)
     unfolding endCommitted
-    decide-none nc nil = rw (unlogged-end tb₁ nc) (unlogged (emptied p tb₁) (toApp name.AppCommitted) (addressed-one tb e name.AppCommitted 0 (inl refl)) (used-emptied tb₁) (ends-for tb₁ (z .stands))
+    decide-none nc nil = rw (unlogged-end p tb₁ log nc) (unlogged (emptied p tb₁) (toApp name.AppCommitted) (addressed-one tb e name.AppCommitted 0 (inl refl)) (used-emptied p tb₁) (ends-for t p tb₁ (z .stands))
         (λ h f l a. rw (isv, view-ends t p tb₁ (z .stands)) (decide-empty refl (v .calm) (none-aborted t tb e (toApp name.AppCommitted) (only-one notAborted name.AppCommitted 0 refl)) all-voted (λ r w. empty-some hs₁ (Hopes r) nil (hoping r w)))))
 
     decide-volatile : any isDurable hs₁ ≡ false → O (saying (commitSignals hs₁) (quietly (committing p tb₁) log))
-    decide-volatile nd = unlogged (committing p tb₁) (commitSignals hs₁) commit-home (used-goes transaction.committing committedOf tb₁) (λ u n. goes-other t p tb₁ (z .stands) transaction.committing committedOf u keeps-committed n)
+    decide-volatile nd = unlogged (committing p tb₁) (commitSignals hs₁) commit-home (used-goes p transaction.committing committedOf tb₁) (λ u n. goes-other t p tb₁ (z .stands) transaction.committing committedOf u keeps-committed n)
         (λ h f l a. rw (isv, view-goes t p tb₁ (z .stands) transaction.committing committedOf (λ q. omega arith))
           (decide-unlogged refl (v .calm) (none-aborted t tb e (commitSignals hs₁) commit-not-aborted) all-voted
             (λ r w. let y : Some (Hopes r) hs₁ = hoping r w in no-durable-of hs₁ nd (y .it) (y .there) (y .holds .0))
@@ -253,7 +255,7 @@ module _ (tb : Table) (e : Event) (log : List ℕ) (t : Id) (p : ℕ) (tb₁ : T
       unfolding append commitRecord useMore story next allBytes entries ds
       decide-durable = rw own-id (record {
         records = Record.commit t entries ∷ []; valid = (ok, tt);
-        bytes = ap (λ n. take (n + length bs) (written n bs log)) (used-goes transaction.committing committedOf tb₁) ∙ written-used (tb₁ .used) bs log (rw size fits) ∙ ap₂ (λ n l. take n log ++ l) (z .used) (sym (append-nil bs));
+        bytes = ap (λ n. take (n + length bs) (written n bs log)) (used-goes p transaction.committing committedOf tb₁) ∙ written-used (tb₁ .used) bs log (rw size fits) ∙ ap₂ (λ n l. take n log ++ l) (z .used) (sym (append-nil bs));
         other-story = λ u n s. rw (not-same u n) refl;
         other-view = λ u n. view-more u (length bs) (committing p tb₁) ∙ goes-other t p tb₁ (z .stands) transaction.committing committedOf u keeps-committed n ∙ z .other-view u n;
         addressed = commit-home;
@@ -280,8 +282,8 @@ module _ (tb : Table) (e : Event) (log : List ℕ) (t : Id) (p : ℕ) (tb₁ : T
   -- after an abort nothing is written
   pub own-end-aborting : viewOf t tb ≡ aborting → stateAt p tb₁ ≡ transaction.aborting → viewOf t tb₁ ≡ aborting → O (endIfDone p tb₁ log)
   unfolding endIfDone
-  own-end-aborting isv st isv₁ = rw (unlogged-end tb₁ (λ q. omega (arith, st, q))) (by-cases O (all isDone hs₁) (quietly (emptied p tb₁) log) (quietly tb₁ log)
-      (λ _. unlogged (emptied p tb₁) [] (addressed-nothing tb e) (used-emptied tb₁) (ends-for tb₁ (z .stands))
+  own-end-aborting isv st isv₁ = rw (unlogged-end p tb₁ log (λ q. omega (arith, st, q))) (by-cases O (all isDone hs₁) (quietly (emptied p tb₁) log) (quietly tb₁ log)
+      (λ _. unlogged (emptied p tb₁) [] (addressed-nothing tb e) (used-emptied p tb₁) (ends-for t p tb₁ (z .stands))
         (λ h f l a. rw (isv, view-ends t p tb₁ (z .stands)) (abort refl d-aborting g-out (none-committed t tb e [] (only-nothing notCommitted)))))
       (λ _. unlogged tb₁ [] (addressed-nothing tb e) refl (λ u n. refl) (λ h f l a. rw (isv, isv₁) (abort refl d-aborting g-aborting (none-committed t tb e [] (only-nothing notCommitted))))))
 
@@ -308,9 +310,9 @@ module _ (tb : Table) (e : Event) (log : List ℕ) (t : Id) (p : ℕ) (tb₁ : T
     unfolding append useMore story next allBytes recordBytes
     end-durable d dn fits = rw own-id (record {
       records = Record.forget t ∷ []; valid = (id-size, tt);
-      bytes = ap (λ n. take (n + length bs) (written n bs log)) (used-emptied tb₁) ∙ written-used (tb₁ .used) bs log (omega (arith, fits, size)) ∙ ap₂ (λ n l. take n log ++ l) (z .used) (sym (append-nil bs));
+      bytes = ap (λ n. take (n + length bs) (written n bs log)) (used-emptied p tb₁) ∙ written-used (tb₁ .used) bs log (omega (arith, fits, size)) ∙ ap₂ (λ n l. take n log ++ l) (z .used) (sym (append-nil bs));
       other-story = λ u n s. rw (not-same u n) refl;
-      other-view = λ u n. view-more u (length bs) (emptied p tb₁) ∙ ends-for tb₁ (z .stands) u n ∙ z .other-view u n;
+      other-view = λ u n. view-more u (length bs) (emptied p tb₁) ∙ ends-for t p tb₁ (z .stands) u n ∙ z .other-view u n;
       addressed = addressed-nothing tb e;
       move = λ h f l a. rw (same-refl t, isv, view-more t (length bs) (emptied p tb₁) ∙ view-ends t p tb₁ (z .stands))
         (end-logged (closes l (rw isv at a) (some-durable-of hs₁ d)) (w .calm) (quiet t tb e [] (only-nothing notCommitted) (only-nothing notAborted)) (λ r y. closing dn r (w .waits r y))) })
@@ -321,7 +323,7 @@ module _ (tb : Table) (e : Event) (log : List ℕ) (t : Id) (p : ℕ) (tb₁ : T
         size = rw id-size refl
 
     end-volatile : any isDurable hs₁ ≡ false → O (quietly (emptied p tb₁) log)
-    end-volatile n = unlogged (emptied p tb₁) [] (addressed-nothing tb e) (used-emptied tb₁) (ends-for tb₁ (z .stands))
+    end-volatile n = unlogged (emptied p tb₁) [] (addressed-nothing tb e) (used-emptied p tb₁) (ends-for t p tb₁ (z .stands))
         (λ h f l a. rw (isv, view-ends t p tb₁ (z .stands)) (end-unlogged refl (w .calm) (quiet t tb e [] (only-nothing notCommitted) (only-nothing notAborted))
           (λ x m k. let d : Some Durable hs₁ = w .durable (record { it = x; there = m; holds = k }) in no-durable-of hs₁ n (d .it) (d .there) (d .holds))))
 
@@ -343,14 +345,14 @@ module _ (tb : Table) (e : Event) (log : List ℕ) (t : Id) (p : ℕ) (tb₁ : T
   module _ (hs : List Enlistment) (isv : viewOf t tb ≡ early hs) (calm : Calm t (noteOf tb e)) (unasked : (m : ℕ) → Some (Unasked m) hs → Some (Unasked m) hs₁) where
     start-none : (stateAt p tb₁ ≡ transaction.committing → ⊥) → eqb (length hs₁) 0 ≡ true → O (endCommitted p tb₁ log)
     unfolding endCommitted
-    start-none nc nil = rw (unlogged-end tb₁ nc) (unlogged (emptied p tb₁) (toApp name.AppCommitted) (addressed-one tb e name.AppCommitted 0 (inl refl)) (used-emptied tb₁) (ends-for tb₁ (z .stands))
+    start-none nc nil = rw (unlogged-end p tb₁ log nc) (unlogged (emptied p tb₁) (toApp name.AppCommitted) (addressed-one tb e name.AppCommitted 0 (inl refl)) (used-emptied p tb₁) (ends-for t p tb₁ (z .stands))
         (λ h f l a. rw (isv, view-ends t p tb₁ (z .stands)) (commit-empty refl calm (none-aborted t tb e (toApp name.AppCommitted) (only-one notAborted name.AppCommitted 0 refl)) (λ m w. empty-some hs₁ (Unasked m) nil (unasked m w)))))
 
     start-one : (es : List Enlistment) → hs₁ ≡ es → eqb (length es) 1 ≡ true → O (saying (toEach name.Single hs₁) (quietly (goTo p transaction.singlePhase (changeHeld p (inState enlistment.onePhase) tb₁)) log))
     unfolding messageOf toEach sortBy insertBy
     start-one [] q o = absurd (omega (arith, eqb-true 0 1 o))
     start-one (x ∷ y ∷ es) q o = absurd (omega (arith, eqb-true (length (x ∷ y ∷ es)) 1 o))
-    start-one (x ∷ []) q o = unlogged (goTo p transaction.singlePhase (changeHeld p (inState enlistment.onePhase) tb₁)) (toEach name.Single hs₁) (addressed-each tb e name.Single hs₁ home) (used-goes transaction.singlePhase (inState enlistment.onePhase) tb₁) (λ u n. goes-other t p tb₁ (z .stands) transaction.singlePhase (inState enlistment.onePhase) u (keeps-state enlistment.onePhase) n)
+    start-one (x ∷ []) q o = unlogged (goTo p transaction.singlePhase (changeHeld p (inState enlistment.onePhase) tb₁)) (toEach name.Single hs₁) (addressed-each tb e name.Single hs₁ home) (used-goes p transaction.singlePhase (inState enlistment.onePhase) tb₁) (λ u n. goes-other t p tb₁ (z .stands) transaction.singlePhase (inState enlistment.onePhase) u (keeps-state enlistment.onePhase) n)
         (λ h f l a. rw (isv, view-goes t p tb₁ (z .stands) transaction.singlePhase (inState enlistment.onePhase) (λ q. omega arith))
           (ask-one {n₀ = x .number} refl calm (quiet t tb e (toEach name.Single hs₁) (only-each notCommitted name.Single hs₁ refl) (only-each notAborted name.Single hs₁ refl))
             (λ m w. let y : Some (Unasked m) hs₁ = unasked m w in sym (y .holds .0) ∙ only (y .it) (y .there))
@@ -365,7 +367,7 @@ module _ (tb : Table) (e : Event) (log : List ℕ) (t : Id) (p : ℕ) (tb₁ : T
         there q = rw q (List·Memᴰ·head (λ i. record { about = mine i; name = name.Single; number = x .number }))
 
     start-many : O (saying (toEach name.Prepare hs₁) (quietly (goTo p transaction.phaseOne (changeHeld p (inState enlistment.preparing) tb₁)) log))
-    start-many = unlogged (goTo p transaction.phaseOne (changeHeld p (inState enlistment.preparing) tb₁)) (toEach name.Prepare hs₁) (addressed-each tb e name.Prepare hs₁ home) (used-goes transaction.phaseOne (inState enlistment.preparing) tb₁) (λ u n. goes-other t p tb₁ (z .stands) transaction.phaseOne (inState enlistment.preparing) u (keeps-state enlistment.preparing) n)
+    start-many = unlogged (goTo p transaction.phaseOne (changeHeld p (inState enlistment.preparing) tb₁)) (toEach name.Prepare hs₁) (addressed-each tb e name.Prepare hs₁ home) (used-goes p transaction.phaseOne (inState enlistment.preparing) tb₁) (λ u n. goes-other t p tb₁ (z .stands) transaction.phaseOne (inState enlistment.preparing) u (keeps-state enlistment.preparing) n)
         (λ h f l a. rw (isv, view-goes t p tb₁ (z .stands) transaction.phaseOne (inState enlistment.preparing) (λ q. omega arith))
           (prepare refl calm (quiet t tb e (toEach name.Prepare hs₁) (only-each notCommitted name.Prepare hs₁ refl) (only-each notAborted name.Prepare hs₁ refl))
             (λ m w. held-own (Unasked m) (Preparing m) p (inState enlistment.preparing) tb₁ (λ x _ u. ((u .0, refl), refl)) (unasked m w))))

@@ -5,13 +5,13 @@ use native.Mathlib.Decide.{ℕ-discrete}
 use mathlib.Core.Path.{_≡_, refl, sym, _∙_, ap, subst}
 use mathlib.Core.Logic.{_⊎_, inl, inr}
 use mathlib.Core.Bool.{Bool, true, false, cond, _&&_, _||_, true≢false, false≢true}
-use mathlib.Core.List.{List, [], _∷_, List·Memᴰ·not-nil}
+use mathlib.Core.List.{List, [], _∷_, map, List·Memᴰ·not-nil}
 use lib.ListN.{length}
 use lib.Dec.{eqb}
 use borrow.Author.Tests.{eqb-true, eqb-false, eq-eqb, ne-eqb}
 use Rattle.lists.specs.Members.{_∈_, Each, Some}
 use Rattle.lists.specs.Lists.{any}
-use Rattle.lists.proofs.Tests.{by-test, by-either, no-clash, true-or, false-or, not-true, false-not, some-any}
+use Rattle.lists.proofs.Tests.{by-test, by-either, no-clash, true-or, false-or, not-true, false-not, any-some, some-any}
 use Rattle.lists.proofs.Places.{in-places}
 use Rattle.rules.specs.declared.Enlistment.{Enlistment}
 use Rattle.rules.specs.declared.Transaction.{Transaction}
@@ -42,12 +42,13 @@ use Rattle.rules.specs.Signals.{toApp}
 use Rattle.rules.specs.Events.{Outcome, quietly, saying, endOf, abortOf, decideOf, startPhaseOne, toVote, toReply, toLost, reactionOf, follow, react, reactedOf}
 use Rattle.rules.specs.Refusals.{isRefused}
 use Rattle.rules.proofs.Frames.{Keeps, of-held, held-came, held-own, held-shorter, named-is, named-other, named-place, not-zero, Stands}
-use Rattle.safety.specs.World.{Note, ownerOf, told, noteOf, subjectOf}
+use Rattle.safety.specs.World.{Note, ownerOf, told, noteOf, messageOf, subjectOf}
 use Rattle.safety.specs.Host.{Prepares, Closes}
 use Rattle.safety.specs.Demand3.{Votes, Yes}
 use Rattle.safety.proofs.Alone as alone
-use Rattle.safety.proofs.Alone.{View, Hopes, Waits, Unasked, Preparing, NoDurable}
+use Rattle.safety.proofs.Alone.{Story, Hopes, Waits, Unasked, Preparing, NoDurable}
 use Rattle.safety.proofs.Move.{Calm, NotEnlisted, VoteOf, Doomed, d-early, d-voting, d-single, g-out, Move, gather, vote-on, abort, replied, told-on}
+use Rattle.safety.proofs.Top.{Agrees}
 use Rattle.safety.proofs.View.{viewOf, look, view-stands, view-changes, view-held-other, view-ends, state-held, stands-held}
 use Rattle.safety.proofs.Given.{stands-sound, id-size, owner-held, Row, in-active, in-zero, in-voting, in-single, in-commit, in-abort, row, Named}
 use Rattle.safety.proofs.Messages.{notCommitted, notAborted, only-nothing, only-one, Owned, addressed-nothing, addressed-one, none-committed, none-aborted, quiet}
@@ -295,3 +296,167 @@ module _ (tb : Table) (log : List ℕ) (n : ℕ) (s : Sound tb) (full : length l
       other : (r : Id) → Prepares t r (Note.voted t n (me .rm .0) (me .kind) vote.ReadOnly) → ⊥
       other r (m, q) = let z : _≡_ {A = ℕ} 0 1 = cc in omega arith
   own-vote vote.Aborted st = own-abort tb (event (act.Vote n vote.Aborted)) log t p (changed (inState enlistment.done)) (touched (inState enlistment.done) (state-mild enlistment.done)) refl (rw (view-before transaction.phaseOne (voting-state vote.Aborted st)) d-voting)
+
+  -- ── after the decision ────────────────────────────────────────────────────────────────────────────────────────
+
+  -- an enlistment in another state: kinds stay
+  durable-stays : (k : ℕ) → Some Durable hs → Some Durable (held p (changed (inState k)))
+  durable-stays k h = held-own Durable Durable p (onNumber n (inState k)) tb
+      (λ e m q. by-cases (λ (w : Enlistment). Durable w × (w .holder ≡ e .holder)) (isNumbered n e) (inState k e) e (λ _. (q, refl)) (λ _. (q, refl))) h
+
+  durable-came : (k : ℕ) {w : Enlistment} → w ∈ held p (changed (inState k)) → Durable w → Some Durable hs
+  durable-came k {w} m d = record { it = c .it; there = c .there; holds = sym (same (c .it)) ∙ sym (ap (λ (e : Enlistment). e .kind) (c .holds)) ∙ d }
+    where
+      c : Some (λ e. w ≡ onNumber n (inState k) e) hs
+      c = held-came p (onNumber n (inState k)) tb m
+      same : (e : Enlistment) → onNumber n (inState k) e .kind ≡ e .kind
+      same e = by-cases (λ (w : Enlistment). w .kind ≡ e .kind) (isNumbered n e) (inState k e) e (λ _. refl) (λ _. refl)
+
+  none-stays : (k : ℕ) → NoDurable hs → NoDurable (held p (changed (inState k)))
+  none-stays k nd w m d = let c : Some Durable hs = durable-came k m d in nd (c .it) (c .there) (c .holds)
+
+  -- who waits still waits, or it is the event's own enlistment
+  waits-stays : (k : ℕ) (r : Id) → Some (Waits r) hs → Some (Waits r) (held p (changed (inState k))) ⊎ ((me .rm .0 ≡ r) × Durable me)
+  waits-stays k r h = go (ℕ-discrete (h .it .number) n)
+    where
+      go : Dec (h .it .number ≡ n) → Some (Waits r) (held p (changed (inState k))) ⊎ ((me .rm .0 ≡ r) × Durable me)
+      go (yes q) = inr (rw (nm .only (h .there) q) (h .holds .1, h .holds .0))
+      go (no q) = inl (held-own (λ e. h .it ≡ e) (Waits r) p (onNumber n (inState k)) tb
+        (λ e m d. rw (← d, left-alone (inState k) (h .it) q) (h .holds, refl)) (record { it = h .it; there = h .there; holds = refl }))
+
+  -- its forget record fits, if it is open still
+  room-after : (k : ℕ) → stateAt p tb ≡ transaction.committing → any isDurable (held p (changed (inState k))) ≡ true → changed (inState k) .used + forgetSize ≤ length log
+  room-after k st d = rw (touched (inState k) (state-mild k) .used) (room-open tb s t p (nm .stands) log full st (durable-came k (c .there) (eqb-true (c .it .kind) kind.durable (c .holds))))
+    where
+      c : Some (λ e. isDurable e ≡ true) (held p (changed (inState k)))
+      c = any-some isDurable (held p (changed (inState k))) d
+
+  module _ (a : Act) (about : subjectOf tb (event a) ≡ t) (st : stateAt p tb ≡ transaction.committing) (calm : Calm t (noteOf tb (event a))) where
+    -- it is Done
+    done-committing : (Durable me → Closes t (me .rm .0) (noteOf tb (event a))) → Own tb (event a) log t (follow then.End p (changed (inState enlistment.done)) log)
+    unfolding follow
+    done-committing closes = own-end-committing tb (event a) log t p (changed (inState enlistment.done)) (touched (inState enlistment.done) (state-mild enlistment.done)) about hs
+        (view-before transaction.committing st) (state-after (inState enlistment.done) transaction.committing st)
+        (record {
+          calm = calm;
+          waits = λ r h. by-either inl (λ q. inr (rw (q .0) at (closes (q .1)))) (waits-stays enlistment.done r h);
+          durable = durable-stays enlistment.done; no-durable = none-stays enlistment.done })
+        (own-id-size tb s t p (nm .stands)) (view-after (inState enlistment.done) transaction.committing st) (room-after enlistment.done st)
+
+  done-aborting : (a : Act) → subjectOf tb (event a) ≡ t → stateAt p tb ≡ transaction.aborting → Own tb (event a) log t (follow then.End p (changed (inState enlistment.done)) log)
+  unfolding follow
+  done-aborting a about st = own-end-aborting tb (event a) log t p (changed (inState enlistment.done)) (touched (inState enlistment.done) (state-mild enlistment.done)) about
+      (view-before transaction.aborting st) (state-after (inState enlistment.done) transaction.aborting st) (view-after (inState enlistment.done) transaction.aborting st)
+
+  ack-calm : Calm t (Note.acked t n (me .rm .0))
+  ack-calm = record { not-enlisted = λ m r k q. no₁ m r k q; not-prepared = λ r q. no₂ r (q .0) (q .1) }
+    where
+      no₁ : (m : ℕ) (r : Id) (k : ℕ) → Note.acked t n (me .rm .0) ≡ Note.enlisted t m r k → ⊥
+      no₁ m r k q = let z : _≡_ {A = ℕ} 0 1 = cc in omega arith
+      no₂ : (r : Id) (m : ℕ) → Note.acked t n (me .rm .0) ≡ Note.voted t m r kind.durable vote.Prepared → ⊥
+      no₂ r m q = let z : _≡_ {A = ℕ} 0 1 = cc in omega arith
+
+  own-ack : In enlistment.toldCommit me ⊎ In enlistment.toldAbort me → Own tb (event (act.Ack n)) log t (react (reaction.Becomes enlistment.done then.End) p n tb log)
+  unfolding react told
+  own-ack (inl st) = done-committing (act.Ack n) refl (of-commit (stateAt p tb) me (nm .line) (inl st)) ack-calm (λ _. inl (n, refl))
+  own-ack (inr st) = done-aborting (act.Ack n) refl (of-abort (stateAt p tb) me (nm .line) st)
+
+  -- ── the end of single phase ───────────────────────────────────────────────────────────────────────────────────
+
+  abbrev single-over : Name → Outcome
+  single-over a = saying (toApp a) (quietly (emptied p (changed freed)) log)
+
+  end-is : (a : Name) → stateAt p tb ≡ transaction.singlePhase → follow (then.EndWith a) p (changed freed) log ≡ single-over a
+  unfolding follow
+  end-is a st = ap (saying (toApp a)) (unlogged-end p (changed freed) log (λ q. omega (arith, q, state-after freed transaction.singlePhase st)))
+
+  -- what the application is told is no abort after a committed reply, and no commit after any other
+  reply-ends : (r : Reply) (a : Name) → (h : stateAt p tb ≡ transaction.singlePhase)
+      → ((h : List Note) (l : Story) → Agrees (viewOf t tb) l → Move t h (noteOf tb (event (act.Reply n r))) (map (messageOf tb (event (act.Reply n r))) (toApp a)) l l (alone.single hs) alone.out)
+      → Own tb (event (act.Reply n r)) log t (follow (then.EndWith a) p (changed freed) log)
+  reply-ends r a st mv = rw (end-is a st) (unlogged tb (event (act.Reply n r)) log t p (changed freed) (touched freed freed-mild) refl (emptied p (changed freed)) (toApp a) (addressed-one tb (event (act.Reply n r)) a 0 (inl refl)) (used-emptied p (changed freed)) (ends-for t p (changed freed) (touched freed freed-mild .stands))
+      (λ h made l g. rw (view-before transaction.singlePhase st, view-ends t p (changed freed) (touched freed freed-mild .stands)) (mv h l g)))
+
+  own-reply : (r : Reply) → In enlistment.onePhase me → Own tb (event (act.Reply n r)) log t (react (reaction.Freed (then.EndWith (toReply r))) p n tb log)
+  unfolding react told
+  own-reply reply.Committed st = reply-ends reply.Committed name.AppCommitted (of-single (stateAt p tb) me (nm .line) st)
+      (λ h l g. replied refl refl (record { it = me; there = nm .mine; holds = nm .number }) (none-aborted t tb (event (act.Reply n reply.Committed)) (toApp name.AppCommitted) (only-one notAborted name.AppCommitted 0 refl)))
+  own-reply reply.Aborted st = reply-ends reply.Aborted name.AppAborted (of-single (stateAt p tb) me (nm .line) st)
+      (λ h l g. abort refl d-single g-out (none-committed t tb (event (act.Reply n reply.Aborted)) (toApp name.AppAborted) (only-one notCommitted name.AppAborted 0 refl)))
+  own-reply reply.InDoubt st = reply-ends reply.InDoubt name.AppInDoubt (of-single (stateAt p tb) me (nm .line) st)
+      (λ h l g. abort refl d-single g-out (none-committed t tb (event (act.Reply n reply.InDoubt)) (toApp name.AppInDoubt) (only-one notCommitted name.AppInDoubt 0 refl)))
+
+  -- ── zero done ─────────────────────────────────────────────────────────────────────────────────────────────────
+
+  own-zero-done : In enlistment.zero me → Own tb (event (act.ZeroDone n)) log t (react (reaction.Freed then.StartPhaseOne) p n tb log)
+  unfolding react follow told
+  own-zero-done st = by-cases (Own tb ev log t) (any isPhaseZero (held p (changed freed))) _ _
+      (λ _. unlogged tb ev log t p (changed freed) (touched freed freed-mild) refl (changed freed) [] (addressed-nothing tb ev) refl (λ u d. refl)
+        (λ h made l g. rw (view-before transaction.phaseZero (two .0), view-after freed transaction.phaseZero (two .0))
+          (gather refl (nothing-calm t .not-prepared) (quiet t tb ev [] (only-nothing notCommitted) (only-nothing notAborted)) unasked (λ m r k q w. absurd (nothing-calm t .not-enlisted m r k q)))))
+      (λ _. own-start tb ev log t p (changed freed) (touched freed freed-mild) refl hs (view-before transaction.phaseZero (two .0)) (nothing-calm t) unasked (λ c. omega (arith, c, state-after freed transaction.phaseZero (two .0))))
+    where
+      ev : Event
+      ev = event (act.ZeroDone n)
+      two : (stateAt p tb ≡ transaction.phaseZero) × PhaseZero me
+      two = of-zero (stateAt p tb) me (nm .line) st
+      no-vote : Votes (me .kind) → ⊥
+      no-vote m = by-either (λ q. omega (arith, q, two .1)) (λ q. omega (arith, q, two .1)) m
+      unasked : (m : ℕ) → Some (Unasked m) hs → Some (Unasked m) (held p (changed freed))
+      unasked m h = keep-others (Unasked m) freed (λ q. no-vote (q .1)) h
+
+  -- ── lost ──────────────────────────────────────────────────────────────────────────────────────────────────────
+
+  abbrev lost : Event
+  lost = event (act.Lost n)
+
+  lost-abort : Doomed t (viewOf t tb) → Own tb lost log t (react (reaction.Becomes enlistment.done then.Abort) p n tb log)
+  unfolding react follow
+  lost-abort d = own-abort tb lost log t p (changed (inState enlistment.done)) (touched (inState enlistment.done) (state-mild enlistment.done)) refl d
+
+  lost-prepared : In enlistment.prepared me → Own tb lost log t (react (reaction.Becomes enlistment.preparedLost then.Nothing) p n tb log)
+  unfolding react follow told
+  lost-prepared st = unlogged tb lost log t p (changed (inState enlistment.preparedLost)) (touched (inState enlistment.preparedLost) (state-mild enlistment.preparedLost)) refl (changed (inState enlistment.preparedLost)) [] (addressed-nothing tb lost) refl (λ u d. refl)
+      (λ h made l g. rw (view-before transaction.phaseOne three, view-after (inState enlistment.preparedLost) transaction.phaseOne three)
+        (vote-on refl (quiet t tb lost [] (only-nothing notCommitted) (only-nothing notAborted)) (nothing-calm t .not-enlisted)
+          (λ m w. inr (keep-others (Preparing m) (inState enlistment.preparedLost) (λ q. omega (arith, st, q .1)) w))
+          (λ r w. held-own (Hopes r) (Hopes r) p (onNumber n (inState enlistment.preparedLost)) tb (λ e m q. by-cases (λ (v : Enlistment). Hopes r v × (v .holder ≡ e .holder)) (isNumbered n e) (inState enlistment.preparedLost e) e (λ _. ((q .0, q .1, inr refl), refl)) (λ _. (q, refl))) w)
+          (λ r q. absurd (nothing-calm t .not-prepared r q))))
+    where
+      three : stateAt p tb ≡ transaction.phaseOne
+      three = of-voting (stateAt p tb) me (nm .line) (inr st)
+
+  lost-single : In enlistment.onePhase me → Own tb lost log t (react (reaction.Freed (then.EndWith name.AppInDoubt)) p n tb log)
+  unfolding react
+  lost-single st = rw (end-is name.AppInDoubt four) (unlogged tb lost log t p (changed freed) (touched freed freed-mild) refl (emptied p (changed freed)) (toApp name.AppInDoubt) (addressed-one tb lost name.AppInDoubt 0 (inl refl)) (used-emptied p (changed freed)) (ends-for t p (changed freed) (touched freed freed-mild .stands))
+      (λ h made l g. rw (view-before transaction.singlePhase four, view-ends t p (changed freed) (touched freed freed-mild .stands)) (abort refl d-single g-out (none-committed t tb lost (toApp name.AppInDoubt) (only-one notCommitted name.AppInDoubt 0 refl)))))
+    where
+      four : stateAt p tb ≡ transaction.singlePhase
+      four = of-single (stateAt p tb) me (nm .line) st
+
+  lost-told : In enlistment.toldCommit me → Own tb lost log t (react (reaction.Becomes enlistment.failedToNotify then.Nothing) p n tb log)
+  unfolding react follow told
+  lost-told st = unlogged tb lost log t p (changed (inState enlistment.failedToNotify)) (touched (inState enlistment.failedToNotify) (state-mild enlistment.failedToNotify)) refl (changed (inState enlistment.failedToNotify)) [] (addressed-nothing tb lost) refl (λ u d. refl)
+      (λ h made l g. rw (view-before transaction.committing five, view-after (inState enlistment.failedToNotify) transaction.committing five)
+        (told-on refl (nothing-calm t) (none-aborted t tb lost [] (only-nothing notAborted))
+          (λ r w. inl (held-own (Waits r) (Waits r) p (onNumber n (inState enlistment.failedToNotify)) tb (λ e m q. by-cases (λ (v : Enlistment). Waits r v × (v .holder ≡ e .holder)) (isNumbered n e) (inState enlistment.failedToNotify e) e (λ _. ((q .0, q .1, inr refl), refl)) (λ _. (q, refl))) w))
+          (durable-stays enlistment.failedToNotify) (none-stays enlistment.failedToNotify)))
+    where
+      five : stateAt p tb ≡ transaction.committing
+      five = of-commit (stateAt p tb) me (nm .line) (inl st)
+
+  lost-committing : In enlistment.toldCommit me → durableKind (me .kind) ≡ false → Own tb lost log t (react (reaction.Becomes enlistment.done then.End) p n tb log)
+  unfolding react told
+  lost-committing st nd = done-committing (act.Lost n) refl (of-commit (stateAt p tb) me (nm .line) (inl st)) (nothing-calm t) (λ d. absurd (eqb-false (me .kind) kind.durable nd d))
+
+  lost-aborting : In enlistment.toldAbort me → Own tb lost log t (react (reaction.Becomes enlistment.done then.End) p n tb log)
+  unfolding react
+  lost-aborting st = done-aborting (act.Lost n) refl (of-abort (stateAt p tb) me (nm .line) st)
+
+  -- before the decision
+  early-doomed : In enlistment.active me ⊎ In enlistment.zero me → Doomed t (viewOf t tb)
+  early-doomed (inl q) = by-either (λ w. rw (view-before transaction.active w) d-early) (λ w. rw (view-before transaction.phaseZero w) d-early) (of-active (stateAt p tb) me (nm .line) q)
+  early-doomed (inr q) = rw (view-before transaction.phaseZero (of-zero (stateAt p tb) me (nm .line) q .0)) d-early
+
+  voting-doomed : In enlistment.preparing me ⊎ In enlistment.prepared me → Doomed t (viewOf t tb)
+  voting-doomed q = rw (view-before transaction.phaseOne (of-voting (stateAt p tb) me (nm .line) q)) d-voting
