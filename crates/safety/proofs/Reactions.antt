@@ -165,19 +165,19 @@ freed-mild : Mild freed
 freed-mild x = inr refl
 
 module _ (tb : Table) (log : List ℕ) (n : ℕ) (s : Sound tb) (full : length log ≡ tb .capacity) (nm : Named tb n) (x : TxId) (y : RmId) where
-  abbrev t : Id
+  abbrev pub t : Id
   t = ownerOf n tb
 
-  abbrev p : ℕ
+  abbrev pub p : ℕ
   p = numbered n tb .holder
 
-  abbrev me : Enlistment
+  abbrev pub me : Enlistment
   me = numbered n tb
 
   abbrev hs : List Enlistment
   hs = held p tb
 
-  abbrev event : Act → Event
+  abbrev pub event : Act → Event
   event a = record { tx = x; rm = y; act = a }
 
   abbrev changed : (Enlistment → Enlistment) → Table
@@ -460,3 +460,55 @@ module _ (tb : Table) (log : List ℕ) (n : ℕ) (s : Sound tb) (full : length l
 
   voting-doomed : In enlistment.preparing me ⊎ In enlistment.prepared me → Doomed t (viewOf t tb)
   voting-doomed q = rw (view-before transaction.phaseOne (of-voting (stateAt p tb) me (nm .line) q)) d-voting
+
+  -- ── every reaction ────────────────────────────────────────────────────────────────────────────────────────────
+
+  pub record Reacts (a : Act) (r : Reaction) : Type 0 where
+    pub gives : isRefused r ≡ false → Own tb (event a) log t (react r p n tb log)
+
+  refuses : (a : Act) → Reacts a reaction.Refused
+  refuses a = record { gives = λ q. absurd (true≢false q) }
+
+  reacts-lost : Reacts (act.Lost n) (toLost (me .kind) (me .state))
+  unfolding toLost
+  reacts-lost = by-cases R (eqb k enlistment.active || eqb k enlistment.zero || eqb k enlistment.preparing) _ _
+      (λ q. record { gives = λ _. lost-abort (soon q) })
+      (λ _. by-cases R (eqb k enlistment.prepared) _ _
+        (λ q. by-cases R (durableKind (me .kind)) _ _ (λ _. record { gives = λ _. lost-prepared (eqb-true k enlistment.prepared q) }) (λ _. record { gives = λ _. lost-abort (voting-doomed (inr (eqb-true k enlistment.prepared q))) }))
+        (λ _. by-cases R (eqb k enlistment.onePhase) _ _
+          (λ q. record { gives = λ _. lost-single (eqb-true k enlistment.onePhase q) })
+          (λ _. by-cases R (eqb k enlistment.toldCommit) _ _
+            (λ q. by-cases R (durableKind (me .kind)) _ _ (λ _. record { gives = λ _. lost-told (eqb-true k enlistment.toldCommit q) }) (λ d. record { gives = λ _. lost-committing (eqb-true k enlistment.toldCommit q) d }))
+            (λ _. by-cases R (eqb k enlistment.toldAbort) _ _ (λ q. record { gives = λ _. lost-aborting (eqb-true k enlistment.toldAbort q) }) (λ _. refuses (act.Lost n))))))
+    where
+      k : ℕ
+      k = me .state
+      R : Reaction → Type 0
+      R = Reacts (act.Lost n)
+      soon : (eqb k enlistment.active || eqb k enlistment.zero || eqb k enlistment.preparing) ≡ true → Doomed t (viewOf t tb)
+      soon q = by-either (λ w. by-either (λ v. early-doomed (inl (eqb-true k enlistment.active v))) (λ v. early-doomed (inr (eqb-true k enlistment.zero v))) (true-or (eqb k enlistment.active) (eqb k enlistment.zero) w)) (λ w. voting-doomed (inl (eqb-true k enlistment.preparing w))) (true-or (eqb k enlistment.active || eqb k enlistment.zero) (eqb k enlistment.preparing) q)
+
+  abbrev pub Reacts-to : Act → Type 0
+  Reacts-to a = Reacts a (reactionOf (me .kind) (me .state) a)
+
+  pub reacts-zero-done : Reacts-to (act.ZeroDone n)
+  unfolding reactionOf
+  reacts-zero-done = by-cases (Reacts (act.ZeroDone n)) (eqb (me .state) enlistment.zero) _ _ (λ q. record { gives = λ _. own-zero-done (eqb-true (me .state) enlistment.zero q) }) (λ _. refuses (act.ZeroDone n))
+
+  pub reacts-vote : (v : Vote) → Reacts-to (act.Vote n v)
+  unfolding reactionOf
+  reacts-vote v = by-cases (Reacts (act.Vote n v)) (eqb (me .state) enlistment.preparing) _ _ (λ q. record { gives = λ _. own-vote v (eqb-true (me .state) enlistment.preparing q) }) (λ _. refuses (act.Vote n v))
+
+  pub reacts-reply : (r : Reply) → Reacts-to (act.Reply n r)
+  unfolding reactionOf
+  reacts-reply r = by-cases (Reacts (act.Reply n r)) (eqb (me .state) enlistment.onePhase) _ _ (λ q. record { gives = λ _. own-reply r (eqb-true (me .state) enlistment.onePhase q) }) (λ _. refuses (act.Reply n r))
+
+  pub reacts-ack : Reacts-to (act.Ack n)
+  unfolding reactionOf
+  reacts-ack = by-cases (Reacts (act.Ack n)) (eqb (me .state) enlistment.toldCommit || eqb (me .state) enlistment.toldAbort) _ _
+      (λ q. record { gives = λ _. own-ack (by-either (λ w. inl (eqb-true (me .state) enlistment.toldCommit w)) (λ w. inr (eqb-true (me .state) enlistment.toldAbort w)) (true-or (eqb (me .state) enlistment.toldCommit) (eqb (me .state) enlistment.toldAbort) q)) })
+      (λ _. refuses (act.Ack n))
+
+  pub reacts-to-lost : Reacts-to (act.Lost n)
+  unfolding reactionOf
+  reacts-to-lost = reacts-lost
