@@ -169,7 +169,7 @@ same-place u tb tb′ l s = by-test (eqb (placeNamed u tb) 0)
       first = λ q a b. s q ∙ f .first q a b })
 
 module _ (p : ℕ) (f : Transaction → Transaction) (tb : Table) where
-  at-own : IsPlace (tb .transactions) p → transactionAt p (changeTransaction p f tb) ≡ f (transactionAt p tb)
+  pub at-own : IsPlace (tb .transactions) p → transactionAt p (changeTransaction p f tb) ≡ f (transactionAt p tb)
   unfolding changeTransaction
   at-own h = at-change-same f noTransaction (tb .transactions) h
 

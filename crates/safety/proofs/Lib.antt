@@ -9,3 +9,4 @@ pub mod Given
 pub mod Messages
 pub mod Own
 pub mod Reactions
+pub mod Calls

@@ -66,7 +66,7 @@ pub used-emptied : (p : ℕ) (tb : Table) → emptied p tb .used ≡ tb .used
 unfolding changeHeld changeTransaction
 used-emptied p tb = refl
 
-used-goes : (p s : ℕ) (f : Enlistment → Enlistment) (tb : Table) → goTo p s (changeHeld p f tb) .used ≡ tb .used
+pub used-goes : (p s : ℕ) (f : Enlistment → Enlistment) (tb : Table) → goTo p s (changeHeld p f tb) .used ≡ tb .used
 unfolding changeHeld changeTransaction
 used-goes p s f tb = refl
 

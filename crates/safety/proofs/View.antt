@@ -34,7 +34,7 @@ pub view-stands : (t : Id) (p : ℕ) (tb : Table) → Stands t p tb → viewOf t
 unfolding viewOf
 view-stands t p tb s = ap (λ q. look (stateAt q tb) (held q tb)) (stands-place t p tb s)
 
-state-none : (tb : Table) → stateAt 0 tb ≡ 0
+pub state-none : (tb : Table) → stateAt 0 tb ≡ 0
 state-none tb = ap (λ (x : Transaction). x .state) (at-below noTransaction 1 0 (tb .transactions) (omega arith))
 
 pub view-absent : (t : Id) (tb : Table) → Absent t tb → viewOf t tb ≡ out
