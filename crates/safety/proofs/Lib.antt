@@ -10,3 +10,4 @@ pub mod Messages
 pub mod Own
 pub mod Reactions
 pub mod Calls
+pub mod Ends

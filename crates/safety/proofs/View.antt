@@ -99,7 +99,7 @@ module _ (t : Id) (p : ℕ) (tb : Table) (s : Stands t p tb) where
   unfolding changeHeld
   view-changes g = view-stands t p (changeHeld p g tb) (stands-held t p p g tb s)
 
-freed-keeps : Keeps freed
+pub freed-keeps : Keeps freed
 freed-keeps e = inr refl
 
 pub ends-other : (u : Id) (p : ℕ) (tb : Table) → isNamed u (transactionAt p tb) ≡ false → viewOf u (emptied p tb) ≡ viewOf u tb
