@@ -11,3 +11,4 @@ pub mod Own
 pub mod Reactions
 pub mod Calls
 pub mod Ends
+pub mod Reenlisted
