@@ -3,3 +3,6 @@ pub mod Frames
 pub mod Bytes
 pub mod Identifiers
 pub mod Soundness
+pub mod Refused
+pub mod Checks
+pub mod Records
