@@ -11,7 +11,7 @@ use borrow.Author.Tests.{eqb-true, eqb-false, eq-eqb, ne-eqb}
 use Rattle.lists.specs.Members.{_∈_, Each, Some}
 use Rattle.lists.specs.Lists.{any, none, filter, firstOr}
 use Rattle.lists.specs.Places.{placeOf, putLowest}
-use Rattle.lists.proofs.Tests.{by-test, by-either, no-clash, is-false, true-and, true-or, not-true, not-false, in-filter, first-passes, first-none}
+use Rattle.lists.proofs.Tests.{by-test, by-either, no-clash, is-false, true-and, true-or, not-true, not-false, in-filter, first-passes, first-none, each-nothing}
 use Rattle.lists.proofs.Places.{place-first, put-is, put-there, put-keeps, filter-put}
 use Rattle.rules.specs.declared.Transaction.{Transaction}
 use Rattle.rules.specs.declared.Enlistment.{Enlistment}
@@ -37,6 +37,7 @@ use Rattle.rules.specs.Log.{allBytes}
 use Rattle.rules.specs.Signals.{signal, toEach}
 use Rattle.rules.specs.Events.{Outcome, quietly, saying, abortOf, startPhaseOne, beginOf, kindOf, zeroAtOnce, newEnlistment, enlistOf, zeroedOf, commitOf, isUndone, isOver, toldAgain, askOf}
 use Rattle.rules.proofs.Identifiers.{same-refl}
+use Rattle.rules.proofs.Records.{Valid}
 use Rattle.rules.proofs.Frames.{Keeps, of-held, in-held, held-came, held-own, held-transaction, named-is, named-other, named-found, none-absent, Stands, Absent, at-own, at-other, place-kept}
 use Rattle.safety.specs.World.{Note, told, noteOf, messageOf, subjectOf}
 use Rattle.safety.specs.Host.{Prepares, MayAsk, careful, Makes}
@@ -126,7 +127,7 @@ module _ (tb : Table) (log : List ℕ) (s : Sound tb) (x : TxId) (y : RmId) wher
     own-begun : Own tb (event act.Begin) log t (quietly begun log)
     unfolding story told
     own-begun = record {
-      records = []; valid = tt; bytes = rw used-begun nothing-written; other-story = λ u d k. refl; other-view = begun-other; addressed = addressed-nothing tb (event act.Begin);
+      records = []; valid = each-nothing Valid; bytes = rw used-begun nothing-written; other-story = λ u d k. refl; other-view = begun-other; addressed = addressed-nothing tb (event act.Begin);
       move = λ h made l a. rw (view-absent t tb absent, begun-view) (begin refl made refl (quiet t tb (event act.Begin) [] (only-nothing notCommitted) (only-nothing notAborted))) }
 
     pub own-begin : Own tb (event act.Begin) log t (beginOf t tb log)
@@ -234,7 +235,7 @@ module _ (tb : Table) (log : List ℕ) (s : Sound tb) (x : TxId) (y : RmId) wher
       own-enlisted : Own tb ev log t (saying ss (quietly enlisted log))
       unfolding story told
       own-enlisted = record {
-        records = []; valid = tt; bytes = rw used-enlisted nothing-written; other-story = λ u d q. refl; other-view = enlisted-other;
+        records = []; valid = each-nothing Valid; bytes = rw used-enlisted nothing-written; other-story = λ u d q. refl; other-view = enlisted-other;
         addressed = addressed-neutral tb ev ss (only-zero notCommitted refl) (only-zero notAborted refl);
         move = λ h made l a. rw (is-early st, enlisted-view) (gather refl not-prepared (quiet t tb ev ss (only-zero notCommitted refl) (only-zero notAborted refl)) (λ j w. enlisted-keeps (Unasked j) w) is-new) }
 
@@ -250,7 +251,7 @@ module _ (tb : Table) (log : List ℕ) (s : Sound tb) (x : TxId) (y : RmId) wher
       → ((h : List Note) → MayAsk t r h → (l : Story) → Agrees (viewOf t tb) l → Move t h Note.nothing (map (messageOf tb ask) ss) l l (viewOf t tb) (viewOf t tb))
       → Own tb ask log t (saying ss (quietly tb log))
   unfolding story told
-  only-answered ss ad mv = record { records = []; valid = tt; bytes = nothing-written; other-story = λ u d q. refl; other-view = λ u d. refl; addressed = ad; move = mv }
+  only-answered ss ad mv = record { records = []; valid = each-nothing Valid; bytes = nothing-written; other-story = λ u d q. refl; other-view = λ u d. refl; addressed = ad; move = mv }
 
   again-kept : (e : Enlistment) → (toldAgain r e .holder ≡ e .holder) × (toldAgain r e .kind ≡ e .kind)
   again-kept e = by-cases (λ (w : Enlistment). (w .holder ≡ e .holder) × (w .kind ≡ e .kind)) (isUndone r e && isIn enlistment.failedToNotify e) (inState enlistment.toldCommit e) e (λ _. (refl, refl)) (λ _. (refl, refl))

@@ -9,10 +9,10 @@ use mathlib.Core.List.{List, [], _∷_, _++_, append-assoc, append-nil, List·Me
 use lib.ListN.{length, take}
 use lib.Dec.{eqb}
 use borrow.Author.Tests.{eqb-true, eqb-false, eq-eqb, ne-eqb}
-use Rattle.lists.specs.Members.{_∈_}
+use Rattle.lists.specs.Members.{_∈_, Each}
 use Rattle.lists.specs.Lists.{any, filter}
 use Rattle.lists.specs.Places.{placeOf, atFrom, at, changeFrom, placesFrom}
-use Rattle.lists.proofs.Tests.{by-test, by-either, no-clash, is-false, true-and, not-true, false-not}
+use Rattle.lists.proofs.Tests.{by-test, by-either, no-clash, is-false, true-and, not-true, false-not, each-nothing, each-more}
 use Rattle.lists.proofs.Places.{change-below}
 use Rattle.rules.specs.declared.Transaction.{Transaction}
 use Rattle.rules.specs.declared.Enlistment.{Enlistment}
@@ -25,10 +25,10 @@ use Rattle.rules.specs.Sound.{isOpen, openPlaces, openCount}
 use Rattle.rules.specs.Log.{Record, recordBytes, allBytes, forgetSize, written}
 use Rattle.rules.specs.Events.{Outcome, quietly, append, endOf, endEach}
 use Rattle.rules.proofs.Identifiers.{same-refl, other-not-same}
+use Rattle.rules.proofs.Records.{Valid, valid-forget}
 use Rattle.rules.proofs.Frames.{held-other, held-transaction, named-is, Stands, Absent, at-other, at-changed, absent-ended, unnamed-ended, written-used, length-written, not-zero, named-place}
 use Rattle.safety.proofs.Alone.{Story, View, out}
-use Rattle.safety.proofs.Log.{AllValid}
-use Rattle.safety.proofs.Story.{next, story, story-append, onForget, valid-append, bytes-append}
+use Rattle.safety.proofs.Story.{next, story, story-append, onForget, valid-both, bytes-append}
 use Rattle.safety.proofs.View.{viewOf, look, view-absent, ends-other, freed-keeps}
 use Rattle.safety.proofs.Own.{by-cases}
 
@@ -119,9 +119,9 @@ module _ (p : ℕ) (tb : Table) (log : List ℕ) where
   ends-silent = by-cases (λ (w : Outcome). w .signals ≡ []) (isOpen (stateAt p tb) (held p tb)) _ _ (λ _. refl) (λ _. refl)
 
   module _ (g : Roomy tb log) where
-    ends-valid : AllValid (forgetOf p tb)
+    ends-valid : Each Valid (forgetOf p tb)
     unfolding forgetOf
-    ends-valid = by-cases AllValid (isOpen (stateAt p tb) (held p tb)) (Record.forget (idAt p tb) ∷ []) [] (λ b. (g .sized p (open-live p tb b), tt)) (λ _. tt)
+    ends-valid = by-test (isOpen (stateAt p tb) (held p tb)) (λ b. rw b (each-more (valid-forget (g .sized p (open-live p tb b))) (each-nothing Valid))) (λ b. rw b (each-nothing Valid))
 
     forget-length : isOpen (stateAt p tb) (held p tb) ≡ true → length (recordBytes (Record.forget (idAt p tb))) ≡ forgetSize
     unfolding recordBytes
@@ -220,10 +220,10 @@ unfolding endEach
 each-silent [] tb log = refl
 each-silent (p ∷ ps) tb log = each-silent ps (endOf p tb log .table) (endOf p tb log .log)
 
-pub each-valid : (ps : List ℕ) (tb : Table) (log : List ℕ) → Roomy tb log → AllValid (forgets ps tb log)
+pub each-valid : (ps : List ℕ) (tb : Table) (log : List ℕ) → Roomy tb log → Each Valid (forgets ps tb log)
 unfolding forgets
-each-valid [] tb log g = tt
-each-valid (p ∷ ps) tb log g = valid-append (forgetOf p tb) (forgets ps (endOf p tb log .table) (endOf p tb log .log)) (ends-valid p tb log g) (each-valid ps (endOf p tb log .table) (endOf p tb log .log) (ends-roomy p tb log g))
+each-valid [] tb log g = each-nothing Valid
+each-valid (p ∷ ps) tb log g = valid-both (forgetOf p tb) (forgets ps (endOf p tb log .table) (endOf p tb log .log)) (ends-valid p tb log g) (each-valid ps (endOf p tb log .table) (endOf p tb log .log) (ends-roomy p tb log g))
 
 pub each-bytes : (ps : List ℕ) (tb : Table) (log : List ℕ) → Roomy tb log → take (endEach ps tb log .table .used) (endEach ps tb log .log) ≡ take (tb .used) log ++ allBytes (forgets ps tb log)
 unfolding endEach forgets allBytes

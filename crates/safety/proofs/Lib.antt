@@ -2,7 +2,6 @@ pub mod Alone
 pub mod Move
 pub mod Cut
 pub mod Top
-pub mod Log
 pub mod Story
 pub mod View
 pub mod Given
@@ -12,3 +11,4 @@ pub mod Reactions
 pub mod Calls
 pub mod Ends
 pub mod Reenlisted
+pub mod Steps

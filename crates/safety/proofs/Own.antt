@@ -12,7 +12,7 @@ use borrow.Author.Tests.{eqb-true, eqb-false, eq-eqb, ne-eqb, ltb-false}
 use Rattle.lists.specs.Members.{_∈_, Each, Some}
 use Rattle.lists.specs.Lists.{all, any, none, filter}
 use Rattle.lists.specs.Sorting.{insertBy, sortBy}
-use Rattle.lists.proofs.Tests.{by-test, by-either, no-clash, true-and, not-true, not-false, false-not, in-filter, of-filter, length-filter, in-map, of-map, all-each, any-some, some-any, none-each}
+use Rattle.lists.proofs.Tests.{by-test, by-either, no-clash, true-and, not-true, not-false, false-not, in-filter, of-filter, length-filter, in-map, of-map, all-each, any-some, some-any, none-each, each-nothing, each-more, each-head, each-rest, each-map}
 use Rattle.lists.proofs.Sorting.{in-sort, of-sort, length-sort}
 use Rattle.lists.proofs.Places.{in-places}
 use Rattle.rules.specs.declared.Enlistment.{Enlistment}
@@ -27,10 +27,11 @@ use Rattle.rules.specs.Sizes.{identifierSize, largestNumber, heldMost, recordSi
 use Rattle.rules.specs.Identifiers.{Id, sameBytes}
 use Rattle.rules.specs.Table.{noTransaction, isNamed, transactionAt, stateAt, idAt, held, isDurable, isMarked, isIn, isDone, inState, changeHeld, changeTransaction, goTo, emptied, useMore}
 use Rattle.rules.specs.Sound.{isOpen, openPlaces, openCount, In, Durable}
-use Rattle.rules.specs.Log.{Entry, Record, recordBytes, entriesBytes, allBytes, commitSize, forgetSize, written}
+use Rattle.rules.specs.Log.{Entry, Record, low4, recordBytes, entryBytes, entriesBytes, allBytes, commitSize, forgetSize, written}
 use Rattle.rules.specs.Signals.{byNumber, signal, toEach, toApp}
 use Rattle.rules.specs.Events.{Outcome, quietly, saying, append, endOf, endIfDone, hearsAbort, abortedOf, abortOf, entryOf, commitRecord, lacksRoom, committedOf, commitSignals, committing, endCommitted, decideOf, startPhaseOne}
 use Rattle.rules.proofs.Identifiers.{same-refl, other-not-same}
+use Rattle.rules.proofs.Records.{ValidEntry, Valid, valid-commit, valid-forget}
 use Rattle.rules.proofs.Frames.{Keeps, held-came, held-own, named-is, named-other, named-place, written-used, Stands, stands-goes, state-goes, held-transaction}
 use Rattle.safety.specs.World.{Note, noteOf, messageOf, subjectOf}
 use Rattle.safety.specs.Host.{Prepares, Closes, careful, Makes}
@@ -39,7 +40,6 @@ use Rattle.safety.proofs.Alone as alone
 use Rattle.safety.proofs.Alone.{Story, closed, View, out, early, voting, aborting, Hopes, Waits, Unasked, Preparing, NoDurable, New}
 use Rattle.safety.proofs.Move.{Calm, NotEnlisted, VoteOf, Doomed, d-voting, d-aborting, Gone, g-out, g-aborting, Move, prepare, ask-one, commit-empty, decide-logged, decide-unlogged, decide-empty, abort, told-on, end-logged, end-unlogged}
 use Rattle.safety.proofs.Top.{Agrees}
-use Rattle.safety.proofs.Log.{Valid, AllValid, ValidEntry, ValidEntries, entries-length}
 use Rattle.safety.proofs.Story.{next, story, managersOf, onForget}
 use Rattle.safety.proofs.View.{viewOf, look, view-goes, goes-other, view-ends, ends-other, view-more, state-held, stands-held}
 use Rattle.safety.proofs.Messages.{notCommitted, notAborted, Only, only-nothing, only-one, only-each, only-both, Addressed, Owned, owned-about, addressed-nothing, addressed-one, addressed-each, addressed-both, none-committed, none-aborted, quiet}
@@ -52,7 +52,7 @@ by-cases P false x y f g = g refl
 
 pub record Own (tb : Table) (e : Event) (log : List ℕ) (t : Id) (o : Outcome) : Type 0 where
   pub records : List Record
-  pub valid : AllValid records
+  pub valid : Each Valid records
   pub bytes : take (o .table .used) (o .log) ≡ take (tb .used) log ++ allBytes records
   pub other-story : (u : Id) → (u ≡ t → ⊥) → (s : Story) → story u s records ≡ s
   pub other-view : (u : Id) → (u ≡ t → ⊥) → viewOf u (o .table) ≡ viewOf u tb
@@ -111,7 +111,7 @@ module _ (tb : Table) (e : Event) (log : List ℕ) (t : Id) (p : ℕ) (tb₁ : T
       → Own tb e log t (record { table = tb₂; log = log; signals = ss })
   unfolding story
   unlogged tb₂ ss ad us ov mv = record {
-    records = []; valid = tt; bytes = rw (us ∙ z .used) nothing-added; other-story = λ u d s. refl; other-view = λ u d. ov u d ∙ z .other-view u d;
+    records = []; valid = each-nothing Valid; bytes = rw (us ∙ z .used) nothing-added; other-story = λ u d s. refl; other-view = λ u d. ov u d ∙ z .other-view u d;
     addressed = ad; move = mv }
 
   -- ── abort ─────────────────────────────────────────────────────────────────────────────────────────────────────
@@ -183,9 +183,13 @@ module _ (tb : Table) (e : Event) (log : List ℕ) (t : Id) (p : ℕ) (tb₁ : T
   commit-home = addressed-both tb e (toEach name.Commit (filter (isIn enlistment.prepared) hs₁)) (toApp name.AppCommitted)
       (addressed-each tb e name.Commit (filter (isIn enlistment.prepared) hs₁) (λ x m. home x (of-filter (isIn enlistment.prepared) hs₁ m .0))) (addressed-one tb e name.AppCommitted 0 (inl refl))
 
-  entries-valid : (es : List Enlistment) → Each (λ x. (length (x .rm .0) ≡ identifierSize) × (x .number ≤ largestNumber)) es → ValidEntries (map entryOf es)
-  entries-valid [] f = tt
-  entries-valid (x ∷ es) f = (record { rm-size = f x (List·Memᴰ·head refl) .0; small = f x (List·Memᴰ·head refl) .1 }, entries-valid es (λ y m. f y (List·Memᴰ·tail m)))
+  entries-valid : (es : List Enlistment) → Each (λ x. (length (x .rm .0) ≡ identifierSize) × (x .number ≤ largestNumber)) es → Each ValidEntry (map entryOf es)
+  entries-valid es f = each-map entryOf ValidEntry es (λ x m. record { rm-size = f x m .0; number-small = f x m .1 })
+
+  entries-size : (es : List Entry) → Each ValidEntry es → length (entriesBytes es) ≡ entrySize * length es
+  unfolding entriesBytes
+  entries-size [] v = refl
+  entries-size (x ∷ es) v = rw (length-append (entryBytes x) (entriesBytes es), length-append (x .rm) (low4 (x .number)), each-head v .rm-size, entries-size es (each-rest v)) (omega arith)
 
   no-durable-of : (hs : List Enlistment) → any isDurable hs ≡ false → NoDurable hs
   no-durable-of hs n x m k = no-clash (isDurable x) (eq-eqb (x .kind) kind.durable k) (none-each isDurable hs n x m)
@@ -237,11 +241,13 @@ module _ (tb : Table) (e : Event) (log : List ℕ) (t : Id) (p : ℕ) (tb₁ : T
       unfolding entries ds
       as-many = length-map ds entryOf ∙ length-sort byNumber (filter isDurable hs₁)
 
+      entries-ok : Each ValidEntry entries
+      unfolding entries ds
+      entries-ok = entries-valid ds (λ x m. z .sized x (of-filter isDurable hs₁ (of-sort byNumber (filter isDurable hs₁) m) .0))
+
       ok : Valid (Record.commit t entries)
-      unfolding ds entries
-      ok = (id-size, rw as-many (positive (filter isDurable hs₁) (in-filter isDurable hs₁ (durables .there) (eq-eqb (durables .it .kind) kind.durable (durables .holds)))),
-        rw as-many (omega (arith, length-filter isDurable hs₁, z .few)),
-        entries-valid ds (λ x m. z .sized x (of-filter isDurable hs₁ (of-sort byNumber (filter isDurable hs₁) m) .0)))
+      ok = valid-commit {es = entries} id-size (rw as-many (positive (filter isDurable hs₁) (in-filter isDurable hs₁ (durables .there) (eq-eqb (durables .it .kind) kind.durable (durables .holds)))))
+        (rw as-many (omega (arith, length-filter isDurable hs₁, z .few))) entries-ok
 
       listed : (q : Id) → Some (Hopes q) hs₁ → q ∈ managersOf entries
       unfolding entries ds
@@ -249,12 +255,12 @@ module _ (tb : Table) (e : Event) (log : List ℕ) (t : Id) (p : ℕ) (tb₁ : T
 
       size : length (recordBytes (Record.commit t entries)) ≡ commitSize (length (filter isDurable hs₁))
       unfolding recordBytes
-      size = rw (length-append t (entriesBytes entries), id-size, entries-length entries (ok .3), as-many) (omega arith)
+      size = rw (length-append t (entriesBytes entries), id-size, entries-size entries entries-ok, as-many) (omega arith)
 
       decide-durable : O (saying (commitSignals hs₁) (append (commitRecord (idAt p tb₁) hs₁) (committing p tb₁) log))
       unfolding append commitRecord useMore story next allBytes entries ds
       decide-durable = rw own-id (record {
-        records = Record.commit t entries ∷ []; valid = (ok, tt);
+        records = Record.commit t entries ∷ []; valid = each-more ok (each-nothing Valid);
         bytes = ap (λ n. take (n + length bs) (written n bs log)) (used-goes p transaction.committing committedOf tb₁) ∙ written-used (tb₁ .used) bs log (rw size fits) ∙ ap₂ (λ n l. take n log ++ l) (z .used) (sym (append-nil bs));
         other-story = λ u n s. rw (not-same u n) refl;
         other-view = λ u n. view-more u (length bs) (committing p tb₁) ∙ goes-other t p tb₁ (z .stands) transaction.committing committedOf u keeps-committed n ∙ z .other-view u n;
@@ -309,7 +315,7 @@ module _ (tb : Table) (e : Event) (log : List ℕ) (t : Id) (p : ℕ) (tb₁ : T
     end-durable : any isDurable hs₁ ≡ true → all isDone hs₁ ≡ true → tb₁ .used + forgetSize ≤ length log → O (append (Record.forget (idAt p tb₁)) (emptied p tb₁) log)
     unfolding append useMore story next allBytes recordBytes
     end-durable d dn fits = rw own-id (record {
-      records = Record.forget t ∷ []; valid = (id-size, tt);
+      records = Record.forget t ∷ []; valid = each-more (valid-forget id-size) (each-nothing Valid);
       bytes = ap (λ n. take (n + length bs) (written n bs log)) (used-emptied p tb₁) ∙ written-used (tb₁ .used) bs log (omega (arith, fits, size)) ∙ ap₂ (λ n l. take n log ++ l) (z .used) (sym (append-nil bs));
       other-story = λ u n s. rw (not-same u n) refl;
       other-view = λ u n. view-more u (length bs) (emptied p tb₁) ∙ ends-for t p tb₁ (z .stands) u n ∙ z .other-view u n;

@@ -5,18 +5,19 @@ use native.Mathlib.Omega.{arith}
 use native.Mathlib.Decide.{decLe}
 use mathlib.Core.Path.{_≡_, refl, sym, _∙_, ap}
 use mathlib.Core.Bool.{Bool, true, false, cond, not, _&&_}
-use mathlib.Core.List.{List, [], _∷_, _++_, map, append-assoc, append-nil}
+use mathlib.Core.List.{List, [], _∷_, _++_, map, append-assoc, append-nil, List·Memᴰ·append-cases, Memᴰ·append-left}
 use lib.ListN.{length, take, drop, drop-of-length-le}
 use lib.Seq.{drop-append-le}
 use Rattle.lists.specs.Lists.{filter}
-use Rattle.lists.proofs.Tests.{by-test, no-clash, false-not, filter-append, filter-filter, filter-same, filter-none}
+use Rattle.lists.specs.Members.{Each}
+use Rattle.lists.proofs.Tests.{by-test, by-either, no-clash, each-nothing, each-head, each-rest, false-not, filter-append, filter-filter, filter-same, filter-none}
 use Rattle.rules.specs.Identifiers.{Id, sameBytes}
 use Rattle.rules.specs.Sizes.{headerSize}
 use Rattle.rules.specs.Log.{Entry, Record, header, recordBytes, allBytes, scan}
 use Rattle.rules.specs.Restart.{Open, isOpenAs, afterRecord, openAfter}
 use Rattle.rules.proofs.Identifiers.{same-refl, same-equal}
+use Rattle.rules.proofs.Records.{Valid, valid-commit, torn-nothing, scan-all, Begins, scan-longer}
 use Rattle.safety.proofs.Alone.{Story, none, open-with, closed, bad, Below, below-refl, below-trans}
-use Rattle.safety.proofs.Log.{More, scan-prefix, Valid, AllValid, scan-all}
 
 -- ── stories ─────────────────────────────────────────────────────────────────────────────────────────────────────
 
@@ -77,46 +78,44 @@ pub story-prefix : (t : Id) (a b : List ℕ) → Below (storyOf t a) (storyOf t 
 unfolding storyOf scan story
 story-prefix t a b = go (decLe headerSize (length a))
   where
-    more : (m : More (scan 0 (drop headerSize a)) (scan 0 (drop headerSize a ++ b))) → Below (story t none (scan 0 (drop headerSize a))) (story t none (scan 0 (drop headerSize a ++ b)))
+    more : (m : Begins (scan 0 (drop headerSize a)) (scan 0 (drop headerSize a ++ b))) → Below (story t none (scan 0 (drop headerSize a))) (story t none (scan 0 (drop headerSize a ++ b)))
     more m = rw (m .split, story-append t none (scan 0 (drop headerSize a)) (m .more)) (story-up t (story t none (scan 0 (drop headerSize a))) (m .more))
     go : Dec (headerSize ≤ length a) → Below (story t none (scan 0 (drop headerSize a))) (story t none (scan 0 (drop headerSize (a ++ b))))
-    go (yes p) = rw (drop-append-le headerSize a b p) (more (scan-prefix 0 (drop headerSize a) b))
+    go (yes p) = rw (drop-append-le headerSize a b p) (more (scan-longer 0 (drop headerSize a) b))
     go (no p) = rw (drop-of-length-le a {i = headerSize} (omega (arith, p))) tt
 
 -- ── a header and whole records ──────────────────────────────────────────────────────────────────────────────────
 
 pub record Formed (bs : List ℕ) : Type 0 where
   pub records : List Record
-  pub valid : AllValid records
+  pub valid : Each Valid records
   pub bytes : bs ≡ header ++ allBytes records
 
 pub header-formed : Formed header
 unfolding allBytes
-header-formed = record { records = []; valid = tt; bytes = refl }
+header-formed = record { records = []; valid = each-nothing Valid; bytes = refl }
 
 pub story-formed : (t : Id) (bs : List ℕ) (f : Formed bs) → storyOf t bs ≡ story t none (f .records)
 unfolding storyOf
-story-formed t bs f = ap (λ l. story t none (scan 0 (drop headerSize l))) (f .bytes) ∙ ap (story t none) (scan-all (f .records) (f .valid))
+story-formed t bs f = ap (λ l. story t none (scan 0 (drop headerSize l))) (f .bytes) ∙ ap (λ l. story t none (scan 0 l)) (sym (append-nil (allBytes (f .records)))) ∙ ap (story t none) (scan-all (f .records) (f .valid) torn-nothing)
 
-pub valid-append : (a b : List Record) → AllValid a → AllValid b → AllValid (a ++ b)
-valid-append [] b v w = w
-valid-append (x ∷ a) b v w = (v .0, valid-append a b (v .1) w)
+pub valid-both : (a b : List Record) → Each Valid a → Each Valid b → Each Valid (a ++ b)
+valid-both a b v w r m = by-either (v r) (w r) (List·Memᴰ·append-cases a m)
 
-pub valid-front : (a b : List Record) → AllValid (a ++ b) → AllValid a
-valid-front [] b v = tt
-valid-front (r ∷ a) b v = (v .0, valid-front a b (v .1))
+pub valid-front : (a b : List Record) → Each Valid (a ++ b) → Each Valid a
+valid-front a b v r m = v r (Memᴰ·append-left b m)
 
 pub bytes-append : (a b : List Record) → allBytes (a ++ b) ≡ allBytes a ++ allBytes b
 unfolding allBytes
 bytes-append [] b = refl
 bytes-append (x ∷ a) b = ap (λ l. recordBytes x ++ l) (bytes-append a b) ∙ sym (append-assoc (recordBytes x) (allBytes a) (allBytes b))
 
-pub formed-append : (bs : List ℕ) (f : Formed bs) (rs : List Record) → AllValid rs → Formed (bs ++ allBytes rs)
+pub formed-append : (bs : List ℕ) (f : Formed bs) (rs : List Record) → Each Valid rs → Formed (bs ++ allBytes rs)
 formed-append bs f rs v = record {
-  records = f .records ++ rs; valid = valid-append (f .records) rs (f .valid) v;
+  records = f .records ++ rs; valid = valid-both (f .records) rs (f .valid) v;
   bytes = ap (λ l. l ++ allBytes rs) (f .bytes) ∙ append-assoc header (allBytes (f .records)) (allBytes rs) ∙ ap (λ l. header ++ l) (sym (bytes-append (f .records) rs)) }
 
-pub story-more : (t : Id) (bs : List ℕ) (f : Formed bs) (rs : List Record) → AllValid rs → storyOf t (bs ++ allBytes rs) ≡ story t (storyOf t bs) rs
+pub story-more : (t : Id) (bs : List ℕ) (f : Formed bs) (rs : List Record) → Each Valid rs → storyOf t (bs ++ allBytes rs) ≡ story t (storyOf t bs) rs
 unfolding formed-append
 story-more t bs f rs v = story-formed t (bs ++ allBytes rs) (formed-append bs f rs v) ∙ story-append t none (f .records) rs ∙ ap (λ s. story t s rs) (sym (story-formed t bs f))
 
@@ -175,17 +174,20 @@ module _ (t : Id) where
   tells-forget closed os u d = tt
   tells-forget bad os u d = tt
 
+  some-entry : {u : Id} {es : List Entry} → Valid (Record.commit u es) → 0 < length es
+  some-entry (valid-commit a b c d) = b
+
   tells-next : (r : Record) → Valid r → (s : Story) (os : List Open) → Tells s os → Tells (next t s r) (afterRecord os r)
   unfolding next afterRecord
   tells-next (Record.commit u es) v s os h = by-test (sameBytes u t)
-    (λ d. rw d (tells-commit s os u es (v .1) d h))
+    (λ d. rw d (tells-commit s os u es (some-entry v) d h))
     (λ d. rw d (tells-same s os (os ++ (record { id = u; entries = es } ∷ [])) (commit-other os u es d) h))
   tells-next (Record.forget u) v s os h = by-test (sameBytes u t)
     (λ d. rw d (tells-forget s os u d))
     (λ d. rw d (tells-same s os (filter (λ o. not (isOpenAs u o)) os) (forget-other os u d) h))
 
   -- what the records tell of t, restart finds
-  pub tells : (rs : List Record) → AllValid rs → (s : Story) (os : List Open) → Tells s os → Tells (story t s rs) (openAfter os rs)
+  pub tells : (rs : List Record) → Each Valid rs → (s : Story) (os : List Open) → Tells s os → Tells (story t s rs) (openAfter os rs)
   unfolding story openAfter
   tells [] v s os h = h
-  tells (r ∷ rs) v s os h = tells rs (v .1) (next t s r) (afterRecord os r) (tells-next r (v .0) s os h)
+  tells (r ∷ rs) v s os h = tells rs (each-rest v) (next t s r) (afterRecord os r) (tells-next r (each-head v) s os h)
