@@ -1,17 +1,17 @@
 -- The events that name a transaction: what Begin, Enlist, Commit, Rollback and Ask are to it.
-use Prim.Native.Nat.{ℕ, _≤_}
+use Prim.Native.Nat.{ℕ}
 use native.Mathlib.Omega.{arith}
 use mathlib.Core.Path.{_≡_, refl, sym, _∙_, ap}
 use mathlib.Core.Logic.{_⊎_, inl, inr}
-use mathlib.Core.Bool.{Bool, true, false, cond, not, _&&_, _||_, true≢false, false≢true}
+use mathlib.Core.Bool.{Bool, true, false, cond, _&&_}
 use mathlib.Core.List.{List, [], _∷_, _++_, map, append-nil}
-use lib.ListN.{length, take}
+use lib.ListN.{take}
 use lib.Dec.{eqb}
-use borrow.Author.Tests.{eqb-true, eqb-false, eq-eqb, ne-eqb}
-use Rattle.lists.specs.Members.{_∈_, Each, Some}
-use Rattle.lists.specs.Lists.{any, none, filter, firstOr}
+use borrow.Author.Tests.{eqb-true, eqb-false, ne-eqb}
+use Rattle.lists.specs.Members.{_∈_, Some}
+use Rattle.lists.specs.Lists.{any, filter, firstOr}
 use Rattle.lists.specs.Places.{placeOf, putLowest}
-use Rattle.lists.proofs.Tests.{by-test, by-either, no-clash, is-false, true-and, true-or, not-true, not-false, in-filter, first-passes, first-none, each-nothing}
+use Rattle.lists.proofs.Tests.{by-test, by-either, no-clash, is-false, true-or, first-passes, first-none, each-nothing}
 use Rattle.lists.proofs.Places.{place-first, put-is, put-there, put-keeps, filter-put}
 use Rattle.rules.specs.declared.Transaction.{Transaction}
 use Rattle.rules.specs.declared.Enlistment.{Enlistment}
@@ -24,34 +24,32 @@ use Rattle.rules.specs.declared.Act.{Act}
 use Rattle.rules.specs.declared.Act.the-variants as act
 use Rattle.rules.specs.declared.Kind.{Kind}
 use Rattle.rules.specs.declared.Mark.{Mark}
-use Rattle.rules.specs.declared.Vote.the-variants as vote
 use Rattle.rules.specs.declared.Name.{Name}
 use Rattle.rules.specs.declared.Name.the-variants as name
-use Rattle.rules.specs.Kinds as kind
 use Rattle.rules.specs.TransactionState as transaction
 use Rattle.rules.specs.EnlistmentState as enlistment
-use Rattle.rules.specs.Identifiers.{Id, sameBytes}
-use Rattle.rules.specs.Table.{noTransaction, noEnlistment, isLive, isFree, isNamed, placeNamed, transactionAt, stateAt, isVacant, heldBy, held, isPhaseZero, isDurableOf, isIn, inState, withTransactions, withEnlistments, changeHeld, changeTransaction, goTo}
+use Rattle.rules.specs.Identifiers.{Id}
+use Rattle.rules.specs.Table.{noTransaction, noEnlistment, isLive, isFree, isNamed, placeNamed, transactionAt, stateAt, isVacant, heldBy, held, isPhaseZero, isIn, inState, withTransactions, withEnlistments, changeHeld, changeTransaction, goTo}
 use Rattle.rules.specs.Sound.{Sound, Durable}
 use Rattle.rules.specs.Log.{allBytes}
 use Rattle.rules.specs.Signals.{signal, toEach}
-use Rattle.rules.specs.Events.{Outcome, quietly, saying, abortOf, startPhaseOne, beginOf, kindOf, zeroAtOnce, newEnlistment, enlistOf, zeroedOf, commitOf, isUndone, isOver, toldAgain, askOf}
+use Rattle.rules.specs.Events.{quietly, saying, abortOf, beginOf, kindOf, zeroAtOnce, newEnlistment, enlistOf, zeroedOf, commitOf, isUndone, isOver, toldAgain, askOf}
 use Rattle.rules.proofs.Identifiers.{same-refl}
 use Rattle.rules.proofs.Records.{Valid}
 use Rattle.rules.proofs.Frames.{Keeps, of-held, in-held, held-came, held-own, held-transaction, named-is, named-other, named-found, none-absent, Stands, Absent, at-own, at-other, place-kept}
-use Rattle.safety.specs.World.{Note, told, noteOf, messageOf, subjectOf}
-use Rattle.safety.specs.Host.{Prepares, MayAsk, careful, Makes}
+use Rattle.safety.specs.World.{Note, told, messageOf}
+use Rattle.safety.specs.Host.{Prepares, MayAsk}
 use Rattle.safety.specs.Demand3.{Committed, Votes}
 use Rattle.safety.proofs.Alone as alone
-use Rattle.safety.proofs.Alone.{Story, View, out, early, Waits, Unasked, NoDurable}
-use Rattle.safety.proofs.Move.{Quiet, d-early, d-aborting, g-aborting, Move, stay, begin, gather, abort, told-on, answer-out}
+use Rattle.safety.proofs.Alone.{Story, early, Waits, Unasked}
+use Rattle.safety.proofs.Move.{d-early, d-aborting, g-aborting, Move, stay, begin, gather, abort, told-on, answer-out}
 use Rattle.safety.proofs.Top.{Agrees}
 use Rattle.safety.proofs.Story.{story}
 use Rattle.safety.proofs.View.{viewOf, look, view-stands, view-absent, view-same, view-goes, goes-other, view-changes, view-held-other, state-none}
 use Rattle.safety.proofs.Given.{stands-sound, owner-held}
 use Rattle.safety.proofs.Messages.{notCommitted, notAborted, Only, only-nothing, only-one, only-each, Addressed, Owned, addressed-nothing, addressed-one, addressed-neutral, none-committed, none-aborted, quiet}
 use Rattle.safety.proofs.Own.{by-cases, Own, unlogged, used-goes, own-abort, own-start}
-use Rattle.safety.proofs.Reactions.{nothing-calm, live, untouched}
+use Rattle.safety.proofs.Reactions.{nothing-calm, untouched}
 
 -- a change of the transaction at p is none of one that stands elsewhere
 view-transaction-other : (u : Id) (p : ℕ) (f : Transaction → Transaction) (tb : Table) → isNamed u (transactionAt p tb) ≡ false → isNamed u (f (transactionAt p tb)) ≡ false → viewOf u (changeTransaction p f tb) ≡ viewOf u tb
@@ -127,8 +125,14 @@ module _ (tb : Table) (log : List ℕ) (s : Sound tb) (x : TxId) (y : RmId) wher
     own-begun : Own tb (event act.Begin) log t (quietly begun log)
     unfolding story told
     own-begun = record {
-      records = []; valid = each-nothing Valid; bytes = rw used-begun nothing-written; other-story = λ u d k. refl; other-view = begun-other; addressed = addressed-nothing tb (event act.Begin);
-      move = λ h made l a. rw (view-absent t tb absent, begun-view) (begin refl made refl (quiet t tb (event act.Begin) [] (only-nothing notCommitted) (only-nothing notAborted))) }
+      records = [];
+      valid = each-nothing Valid;
+      bytes = rw used-begun nothing-written;
+      other-story = λ u d k. refl;
+      other-view = begun-other;
+      addressed = addressed-nothing tb (event act.Begin);
+      move = λ h made l a. rw (view-absent t tb absent, begun-view) (begin refl made refl (quiet t tb (event act.Begin) [] (only-nothing notCommitted) (only-nothing notAborted)));
+    }
 
     pub own-begin : Own tb (event act.Begin) log t (beginOf t tb log)
     own-begin = rw begin-is own-begun
@@ -149,18 +153,21 @@ module _ (tb : Table) (log : List ℕ) (s : Sound tb) (x : TxId) (y : RmId) wher
     unfolding commitOf told
     own-commit st = by-cases (Own tb ev log t) (any isPhaseZero hs) _ _
         (λ _. unlogged tb ev log t p tb (untouched tb s t p at-p) refl tb₂ ss (addressed-neutral tb ev ss (only-each notCommitted name.Zero zs refl) (only-each notAborted name.Zero zs refl)) (used-goes p transaction.phaseZero zeroedOf tb) (λ u d. goes-other t p tb at-p transaction.phaseZero zeroedOf u zeroed-keeps d)
-          (λ h made l a. rw (view-here transaction.active st, view-goes t p tb at-p transaction.phaseZero zeroedOf (λ q. omega arith))
-            (gather refl (nothing-calm t .not-prepared) (quiet t tb ev ss (only-each notCommitted name.Zero zs refl) (only-each notAborted name.Zero zs refl))
-              (λ m w. held-own (Unasked m) (Unasked m) p zeroedOf tb (λ e _ q. zeroed-kept (Unasked m) (λ e q. q) e q) w)
-              (λ m r k q w. absurd (nothing-calm t .not-enlisted m r k q)))))
+        (λ h made l a. rw (view-here transaction.active st, view-goes t p tb at-p transaction.phaseZero zeroedOf (λ q. omega arith))
+        (gather refl (nothing-calm t .not-prepared) (quiet t tb ev ss (only-each notCommitted name.Zero zs refl) (only-each notAborted name.Zero zs refl))
+        (λ m w. held-own (Unasked m) (Unasked m) p zeroedOf tb (λ e _ q. zeroed-kept (Unasked m) (λ e q. q) e q) w)
+        (λ m r k q w. absurd (nothing-calm t .not-enlisted m r k q)))))
         (λ _. own-start tb ev log t p tb (untouched tb s t p at-p) refl hs (view-here transaction.active st) (nothing-calm t) (λ m w. w) (λ c. omega (arith, c, st)))
       where
         ev : Event
         ev = event act.Commit
+
         tb₂ : Table
         tb₂ = goTo p transaction.phaseZero (changeHeld p zeroedOf tb)
+
         zs : List Enlistment
         zs = filter isPhaseZero hs
+
         ss : List Signal
         ss = toEach name.Zero zs
 
@@ -225,6 +232,7 @@ module _ (tb : Table) (log : List ℕ) (s : Sound tb) (x : TxId) (y : RmId) wher
         where
           number : (j : ℕ) (q : Id) (i : ℕ) → Note.enlisted t n r (kindOf k) ≡ Note.enlisted t j q i → n ≡ j
           number j q i w = cc
+
           kinds : (j : ℕ) (q : Id) (i : ℕ) → Note.enlisted t n r (kindOf k) ≡ Note.enlisted t j q i → kindOf k ≡ i
           kinds j q i w = cc
 
@@ -235,9 +243,14 @@ module _ (tb : Table) (log : List ℕ) (s : Sound tb) (x : TxId) (y : RmId) wher
       own-enlisted : Own tb ev log t (saying ss (quietly enlisted log))
       unfolding story told
       own-enlisted = record {
-        records = []; valid = each-nothing Valid; bytes = rw used-enlisted nothing-written; other-story = λ u d q. refl; other-view = enlisted-other;
+        records = [];
+        valid = each-nothing Valid;
+        bytes = rw used-enlisted nothing-written;
+        other-story = λ u d q. refl;
+        other-view = enlisted-other;
         addressed = addressed-neutral tb ev ss (only-zero notCommitted refl) (only-zero notAborted refl);
-        move = λ h made l a. rw (is-early st, enlisted-view) (gather refl not-prepared (quiet t tb ev ss (only-zero notCommitted refl) (only-zero notAborted refl)) (λ j w. enlisted-keeps (Unasked j) w) is-new) }
+        move = λ h made l a. rw (is-early st, enlisted-view) (gather refl not-prepared (quiet t tb ev ss (only-zero notCommitted refl) (only-zero notAborted refl)) (λ j w. enlisted-keeps (Unasked j) w) is-new);
+      }
 
       pub own-enlist : Own tb ev log t (enlistOf p n r k m tb log)
       own-enlist = rw enlist-is own-enlisted
@@ -276,10 +289,10 @@ module _ (tb : Table) (log : List ℕ) (s : Sound tb) (x : TxId) (y : RmId) wher
   ask-committing st nz = unlogged tb ask log t p tb (untouched tb s t p (at-p nz)) refl (changeHeld p (toldAgain r) tb) (signal name.AnswerCommitted answered ∷ []) (addressed-one tb ask name.AnswerCommitted answered (answered-owned nz)) same-used
       (λ u d. view-held-other u p (toldAgain r) tb (λ e. inl (again-kept e .0)) (named-other t u (transactionAt p tb) (at-p nz .here) d))
       (λ h made l a. rw (view-here transaction.committing st, view-changes t p tb (at-p nz) (toldAgain r) ∙ ap (λ k. look k (held p (changeHeld p (toldAgain r) tb))) st)
-        (told-on refl (nothing-calm t) (none-aborted t tb ask (signal name.AnswerCommitted answered ∷ []) (only-one notAborted name.AnswerCommitted answered refl))
-          (λ q w. inl (held-own (Waits q) (Waits q) p (toldAgain r) tb (λ e _ v. (again-waits q e v, again-kept e .0)) w))
-          (λ w. held-own Durable Durable p (toldAgain r) tb (λ e _ v. (again-kept e .1 ∙ v, again-kept e .0)) w)
-          (λ nd e m d. let c : Some (λ w. e ≡ toldAgain r w) hs = held-came p (toldAgain r) tb m in nd (c .it) (c .there) (sym (again-kept (c .it) .1) ∙ sym (ap (λ (w : Enlistment). w .kind) (c .holds)) ∙ d))))
+      (told-on refl (nothing-calm t) (none-aborted t tb ask (signal name.AnswerCommitted answered ∷ []) (only-one notAborted name.AnswerCommitted answered refl))
+      (λ q w. inl (held-own (Waits q) (Waits q) p (toldAgain r) tb (λ e _ v. (again-waits q e v, again-kept e .0)) w))
+      (λ w. held-own Durable Durable p (toldAgain r) tb (λ e _ v. (again-kept e .1 ∙ v, again-kept e .0)) w)
+      (λ nd e m d. let c : Some (λ w. e ≡ toldAgain r w) hs = held-came p (toldAgain r) tb m in nd (c .it) (c .there) (sym (again-kept (c .it) .1) ∙ sym (ap (λ (w : Enlistment). w .kind) (c .holds)) ∙ d))))
 
   ask-over : (stateAt p tb ≡ 0) ⊎ (stateAt p tb ≡ transaction.aborting) → Own tb ask log t (saying (signal name.AnswerAborted 0 ∷ []) (quietly tb log))
   ask-over w = only-answered (signal name.AnswerAborted 0 ∷ []) (addressed-one tb ask name.AnswerAborted 0 (inl refl)) (λ h may l a. by-either

@@ -3,26 +3,24 @@
 use Prim.Native.Nat.{ℕ, suc, _+_, _*_, _≤_, _<_}
 use native.Mathlib.Omega.{arith}
 use mathlib.Core.Path.{_≡_, refl, sym, _∙_, ap, ap₂}
-use mathlib.Core.Logic.{_⊎_, inl, inr}
-use mathlib.Core.Bool.{Bool, true, false, cond, not, _&&_, true≢false, false≢true}
+use mathlib.Core.Bool.{Bool, true, false, cond}
 use mathlib.Core.List.{List, [], _∷_, _++_, append-assoc, append-nil, List·Memᴰ·head, List·Memᴰ·tail, List·Memᴰ·cases-cons, List·Memᴰ·not-nil}
 use lib.ListN.{length, take}
 use lib.Dec.{eqb}
-use borrow.Author.Tests.{eqb-true, eqb-false, eq-eqb, ne-eqb}
+use borrow.Author.Tests.{eqb-true, eqb-false, ne-eqb}
 use Rattle.lists.specs.Members.{_∈_, Each}
 use Rattle.lists.specs.Lists.{any, filter}
 use Rattle.lists.specs.Places.{placeOf, atFrom, at, changeFrom, placesFrom}
-use Rattle.lists.proofs.Tests.{by-test, by-either, no-clash, is-false, true-and, not-true, false-not, each-nothing, each-more}
-use Rattle.lists.proofs.Places.{change-below}
+use Rattle.lists.proofs.Tests.{by-test, by-either, no-clash, is-false, true-and, false-not, each-nothing, each-more}
 use Rattle.rules.specs.declared.Transaction.{Transaction}
 use Rattle.rules.specs.declared.Enlistment.{Enlistment}
 use Rattle.rules.specs.declared.Table.{Table}
 use Rattle.rules.specs.TransactionState as transaction
 use Rattle.rules.specs.Sizes.{identifierSize}
-use Rattle.rules.specs.Identifiers.{Id, sameBytes}
-use Rattle.rules.specs.Table.{noTransaction, isLive, isNamed, placeNamed, transactionAt, stateAt, idAt, heldBy, held, isDurable, freed, ended, changeHeld, changeTransaction, emptied, useMore}
+use Rattle.rules.specs.Identifiers.{Id}
+use Rattle.rules.specs.Table.{noTransaction, isLive, isNamed, transactionAt, stateAt, idAt, heldBy, held, isDurable, freed, ended, changeHeld, changeTransaction, emptied, useMore}
 use Rattle.rules.specs.Sound.{isOpen, openPlaces, openCount}
-use Rattle.rules.specs.Log.{Record, recordBytes, allBytes, forgetSize, written}
+use Rattle.rules.specs.Log.{Record, recordBytes, allBytes, forgetSize}
 use Rattle.rules.specs.Events.{Outcome, quietly, append, endOf, endEach}
 use Rattle.rules.proofs.Identifiers.{same-refl, other-not-same}
 use Rattle.rules.proofs.Records.{Valid, valid-forget}
@@ -41,22 +39,22 @@ module _ {A : Type 0} (f g : ℕ → A → Bool) (h : A → A) (p : ℕ) (same :
   no-more k (x ∷ xs) l = let ih : length (placesFrom g (suc k) (changeFrom h (suc k) p xs)) ≤ length (placesFrom f (suc k) xs) = no-more (suc k) xs (omega arith) in
       by-test (eqb k p)
       (λ e. by-test (f k x)
-        (λ b. rw (e, b, ap (λ q. g q (h x)) (eqb-true k p e) ∙ gone x) (omega (arith, ih)))
-        (λ b. rw (e, b, ap (λ q. g q (h x)) (eqb-true k p e) ∙ gone x) ih))
+      (λ b. rw (e, b, ap (λ q. g q (h x)) (eqb-true k p e) ∙ gone x) (omega (arith, ih)))
+      (λ b. rw (e, b, ap (λ q. g q (h x)) (eqb-true k p e) ∙ gone x) ih))
       (λ e. by-test (f k x)
-        (λ b. rw (e, same k x (eqb-false k p e) (λ z. omega (arith, z, l)), b) (omega (arith, ih)))
-        (λ b. rw (e, same k x (eqb-false k p e) (λ z. omega (arith, z, l)), b) ih))
+      (λ b. rw (e, same k x (eqb-false k p e) (λ z. omega (arith, z, l)), b) (omega (arith, ih)))
+      (λ b. rw (e, same k x (eqb-false k p e) (λ z. omega (arith, z, l)), b) ih))
 
   one-less : (k : ℕ) (d : A) (xs : List A) → 0 < k → f p d ≡ false → f p (atFrom d k p xs) ≡ true → suc (length (placesFrom g k (changeFrom h k p xs))) ≤ length (placesFrom f k xs)
   unfolding placesFrom changeFrom atFrom
   one-less k d [] l n t = no-clash (f p d) t n
   one-less k d (x ∷ xs) l n t = by-test (eqb k p)
       (λ e. let b : f k x ≡ true = ap (λ q. f q x) (eqb-true k p e) ∙ (rw e at t) in
-        rw (e, b, ap (λ q. g q (h x)) (eqb-true k p e) ∙ gone x) (omega (arith, no-more (suc k) xs (omega arith))))
+      rw (e, b, ap (λ q. g q (h x)) (eqb-true k p e) ∙ gone x) (omega (arith, no-more (suc k) xs (omega arith))))
       (λ e. let ih : suc (length (placesFrom g (suc k) (changeFrom h (suc k) p xs))) ≤ length (placesFrom f (suc k) xs) = one-less (suc k) d xs (omega arith) n (rw e at t) in
-        by-test (f k x)
-        (λ b. rw (e, same k x (eqb-false k p e) (λ z. omega (arith, z, l)), b) (omega (arith, ih)))
-        (λ b. rw (e, same k x (eqb-false k p e) (λ z. omega (arith, z, l)), b) ih))
+      by-test (f k x)
+      (λ b. rw (e, same k x (eqb-false k p e) (λ z. omega (arith, z, l)), b) (omega (arith, ih)))
+      (λ b. rw (e, same k x (eqb-false k p e) (λ z. omega (arith, z, l)), b) ih))
 
 -- ── one end ─────────────────────────────────────────────────────────────────────────────────────────────────────
 
@@ -147,12 +145,15 @@ module _ (p : ℕ) (tb : Table) (log : List ℕ) where
     unfolding append useMore allBytes changeHeld changeTransaction
     next-open b = record {
       bytes = written-used (tb .used) bs log (omega (arith, size, fewer b, g .room)) ∙ ap (λ l. take (tb .used) log ++ l) (sym (append-nil bs));
-      room = rw (length-written (tb .used) bs log) (omega (arith, size, fewer b, g .room, same)) }
+      room = rw (length-written (tb .used) bs log) (omega (arith, size, fewer b, g .room, same));
+    }
       where
         bs : List ℕ
         bs = recordBytes (Record.forget (idAt p tb))
+
         size : length bs ≡ forgetSize
         size = forget-length b
+
         same : openCount (useMore (length bs) (emptied p tb)) ≡ openCount (emptied p tb)
         same = ap length (more-open (length bs) (emptied p tb))
 
@@ -172,8 +173,8 @@ module _ (p : ℕ) (tb : Table) (log : List ℕ) where
       where
         sized : (q : ℕ) → isLive (transactionAt q (o .table)) ≡ true → length (idAt q (o .table)) ≡ identifierSize
         sized q l = by-test (eqb q p)
-          (λ e. no-clash (isLive (transactionAt p (o .table))) (rw (eqb-true q p e) at l) (ap isLive (ends-at p) ∙ at-changed p ended (changeHeld p freed tb) (λ c. ap isLive c) (λ c. ap isLive c)))
-          (λ e. ap (λ (x : Transaction). length (x .id .0)) (ends-elsewhere q (eqb-false q p e)) ∙ g .sized q (ap isLive (sym (ends-elsewhere q (eqb-false q p e))) ∙ l))
+            (λ e. no-clash (isLive (transactionAt p (o .table))) (rw (eqb-true q p e) at l) (ap isLive (ends-at p) ∙ at-changed p ended (changeHeld p freed tb) (λ c. ap isLive c) (λ c. ap isLive c)))
+            (λ e. ap (λ (x : Transaction). length (x .id .0)) (ends-elsewhere q (eqb-false q p e)) ∙ g .sized q (ap isLive (sym (ends-elsewhere q (eqb-false q p e))) ∙ l))
 
   -- ── to another transaction ────────────────────────────────────────────────────────────────────────────────────
 
@@ -194,7 +195,8 @@ module _ (p : ℕ) (tb : Table) (log : List ℕ) where
   pub ends-stands : (t : Id) (q : ℕ) → Stands t q tb → (q ≡ p → ⊥) → Stands t q (o .table)
   ends-stands t q s d = record {
     here = ap (isNamed t) (ends-elsewhere q d) ∙ s .here;
-    alone = λ w e. by-test (isNamed t (transactionAt w tb)) (λ b. s .alone w b) (λ b. no-clash (isNamed t (transactionAt w (o .table))) e (ends-unnamed t w b)) }
+    alone = λ w e. by-test (isNamed t (transactionAt w tb)) (λ b. s .alone w b) (λ b. no-clash (isNamed t (transactionAt w (o .table))) e (ends-unnamed t w b));
+  }
 
   pub ends-open : (q : ℕ) → (q ≡ p → ⊥) → (q ≡ 0 → ⊥) → isOpen (stateAt q (o .table)) (held q (o .table)) ≡ isOpen (stateAt q tb) (held q tb)
   ends-open q d z = ap₂ isOpen (ap (λ (x : Transaction). x .state) (ends-elsewhere q d)) (ends-held q d z)
@@ -243,7 +245,8 @@ one-more : (t : Id) (q : ℕ) (ps : List ℕ) (tb : Table) (log : List ℕ) (v :
 unfolding endEach forgets
 one-more t q ps tb log v f g r h = record {
   view = r .view;
-  tale = λ s. story-append t s (forgetOf q tb) (forgets ps (endOf q tb log .table) (endOf q tb log .log)) ∙ r .tale (story t s (forgetOf q tb)) ∙ ap f (h s) }
+  tale = λ s. story-append t s (forgetOf q tb) (forgets ps (endOf q tb log .table) (endOf q tb log .log)) ∙ r .tale (story t s (forgetOf q tb)) ∙ ap f (h s);
+}
 
 -- to one that stands at none of the places
 pub each-other : (u : Id) (ps : List ℕ) (tb : Table) (log : List ℕ) (v : View) → viewOf u tb ≡ v → ((q : ℕ) → q ∈ ps → isNamed u (transactionAt q tb) ≡ false) → Seen u ps tb log v (λ s. s)
@@ -260,8 +263,8 @@ pub each-own : (t : Id) (p : ℕ) (ps : List ℕ) (tb : Table) (log : List ℕ) 
 each-own t p [] tb log s m b = absurd (List·Memᴰ·not-nil m)
 each-own t p (q ∷ ps) tb log s m b = by-test (eqb p q)
     (λ e. rw (← eqb-true p q e) (one-more t p ps tb log out (λ s. s) onForget
-      (each-other t ps (endOf p tb log .table) (endOf p tb log .log) out (view-absent t (endOf p tb log .table) (ends-absent p tb log t s)) (λ w i. ends-absent p tb log t s .nowhere w))
-      (λ k. ends-forgets p tb log t k s b)))
+    (each-other t ps (endOf p tb log .table) (endOf p tb log .log) out (view-absent t (endOf p tb log .table) (ends-absent p tb log t s)) (λ w i. ends-absent p tb log t s .nowhere w))
+    (λ k. ends-forgets p tb log t k s b)))
     (λ e. let d : p ≡ q → ⊥ = eqb-false p q e in one-more t q ps tb log out onForget (λ s. s)
-      (each-own t p ps (endOf q tb log .table) (endOf q tb log .log) (ends-stands q tb log t p s d) (by-either (λ c. absurd (d c)) (λ i. i) (List·Memᴰ·cases-cons m)) (ends-open q tb log p d (not-zero (named-place t p tb (s .here))) ∙ b))
-      (λ k. ends-story q tb log t k (is-false (isNamed t (transactionAt q tb)) (λ n. d (sym (s .alone q n))))))
+    (each-own t p ps (endOf q tb log .table) (endOf q tb log .log) (ends-stands q tb log t p s d) (by-either (λ c. absurd (d c)) (λ i. i) (List·Memᴰ·cases-cons m)) (ends-open q tb log p d (not-zero (named-place t p tb (s .here))) ∙ b))
+    (λ k. ends-story q tb log t k (is-false (isNamed t (transactionAt q tb)) (λ n. d (sym (s .alone q n))))))

@@ -1,24 +1,22 @@
 -- What an accepted step may take for granted of the table that it is given: it is sound, so that names stand at one place, a number is
 -- one enlistment's, and the state of an enlistment tells that of its transaction.
-use Prim.Native.Nat.{ℕ, suc, _+_, _*_, _≤_}
-use native.Mathlib.Omega.{arith}
+use Prim.Native.Nat.{ℕ, suc}
 use mathlib.Core.Path.{_≡_, refl, sym, _∙_, ap}
 use mathlib.Core.Logic.{_⊎_, inl, inr}
-use mathlib.Core.Bool.{Bool, true, false, not}
+use mathlib.Core.Bool.{Bool, true, false}
 use mathlib.Core.List.{List, [], _∷_, List·Memᴰ·head, List·Memᴰ·tail, List·Memᴰ·cases-cons, List·Memᴰ·not-nil}
 use lib.Dec.{eqb}
 use lib.ListN.{length}
 use borrow.Author.Tests.{eqb-true, eqb-false, eq-eqb, ne-eqb}
-use Rattle.lists.specs.Members.{_∈_, Each, Some, Apart, nothing, more}
-use Rattle.lists.specs.Lists.{any, filter}
+use Rattle.lists.specs.Members.{_∈_, Each, Apart, more}
+use Rattle.lists.specs.Lists.{filter}
 use Rattle.lists.specs.Places.{atFrom}
-use Rattle.lists.proofs.Tests.{by-test, by-either, no-clash, not-true, false-not, in-filter, of-filter, first-passes, some-any}
-use Rattle.rules.specs.declared.Transaction.{Transaction}
+use Rattle.lists.proofs.Tests.{by-test, by-either, no-clash, not-true, false-not, in-filter, first-passes, some-any}
 use Rattle.rules.specs.declared.Enlistment.{Enlistment}
 use Rattle.rules.specs.declared.Table.{Table}
 use Rattle.rules.specs.TransactionState as transaction
 use Rattle.rules.specs.EnlistmentState as enlistment
-use Rattle.rules.specs.Sizes.{identifierSize, largestNumber, heldMost}
+use Rattle.rules.specs.Sizes.{identifierSize}
 use Rattle.rules.specs.Identifiers.{Id}
 use Rattle.rules.specs.Table.{noTransaction, noEnlistment, isLive, isNamed, transactionAt, stateAt, idAt, isHeld, held, isNumbered, numbered}
 use Rattle.rules.specs.Sound.{Sound, HoldsWell, In, PhaseZero, Live, Held, active, phase-zero, phase-one, single-phase, committing, aborting}
@@ -61,11 +59,11 @@ module _ {A : Type 0} {R : A → A → Type 0} (flip : (x y : A) → R x y → R
     one-place k p q [] a u v r = no-clash (f d) u unfit
     one-place k p q (x ∷ xs) a u v r = by-test (eqb k p)
         (λ c. by-test (eqb k q)
-          (λ e. sym (eqb-true k p c) ∙ eqb-true k q e)
-          (λ e. let t : f x ≡ true = rw c at u in absurd (apart-head (rw t at a) (atFrom d (suc k) q xs) (at-in (suc k) q xs (rw e at v)) (rw (c, e) at r))))
+        (λ e. sym (eqb-true k p c) ∙ eqb-true k q e)
+        (λ e. let t : f x ≡ true = rw c at u in absurd (apart-head (rw t at a) (atFrom d (suc k) q xs) (at-in (suc k) q xs (rw e at v)) (rw (c, e) at r))))
         (λ c. by-test (eqb k q)
-          (λ e. let t : f x ≡ true = rw e at v in absurd (apart-head (rw t at a) (atFrom d (suc k) p xs) (at-in (suc k) p xs (rw c at u)) (flip (atFrom d (suc k) p xs) x (rw (c, e) at r))))
-          (λ e. one-place (suc k) p q xs (by-test (f x) (λ t. apart-rest (rw t at a)) (λ t. rw t at a)) (rw c at u) (rw e at v) (rw (c, e) at r)))
+        (λ e. let t : f x ≡ true = rw e at v in absurd (apart-head (rw t at a) (atFrom d (suc k) p xs) (at-in (suc k) p xs (rw c at u)) (flip (atFrom d (suc k) p xs) x (rw (c, e) at r))))
+        (λ e. one-place (suc k) p q xs (by-test (f x) (λ t. apart-rest (rw t at a)) (λ t. rw t at a)) (rw c at u) (rw e at v) (rw (c, e) at r)))
 
 -- ── names and numbers ───────────────────────────────────────────────────────────────────────────────────────────
 
@@ -98,6 +96,7 @@ module _ (tb : Table) (s : Sound tb) where
     where
       found : (numbered n tb ∈ tb .enlistments) × (isNumbered n (numbered n tb) ≡ true)
       found = first-passes noEnlistment (isNumbered n) (tb .enlistments) (some-any (isNumbered n) (tb .enlistments) (record { it = x; there = m; holds = eq-eqb (x .number) n e }))
+
       is-n : numbered n tb .number ≡ n
       is-n = eqb-true (numbered n tb .number) n (found .1)
 
@@ -107,6 +106,7 @@ module _ (tb : Table) (s : Sound tb) where
     where
       is-held : Held x
       is-held z = not-zero (named-place t p tb (at .here)) (sym (of-held p tb m .1) ∙ z)
+
       nz : x .number ≡ 0 → ⊥
       nz = s .numbers x (of-held p tb m .0) is-held .0
 
@@ -141,18 +141,27 @@ pub record Named (tb : Table) (n : ℕ) : Type 0 where
 pub named-sound : (tb : Table) → Sound tb → (n : ℕ) → (n ≡ 0 → ⊥) → isNumberHeld n tb ≡ true → Named tb n
 unfolding numbered
 named-sound tb s n nz h = record {
-  number = is-n; stands = at; line = row (s .states (numbered n tb .holder) live) mine; mine = mine;
-  only = λ m e. numbered-is tb s n nz (of-held (numbered n tb .holder) tb m .0) e }
+  number = is-n;
+  stands = at;
+  line = row (s .states (numbered n tb .holder) live) mine;
+  mine = mine;
+  only = λ m e. numbered-is tb s n nz (of-held (numbered n tb .holder) tb m .0) e;
+}
   where
     found : (numbered n tb ∈ tb .enlistments) × (isNumbered n (numbered n tb) ≡ true)
     found = first-passes noEnlistment (isNumbered n) (tb .enlistments) h
+
     is-n : numbered n tb .number ≡ n
     is-n = eqb-true (numbered n tb .number) n (found .1)
+
     is-held : Held (numbered n tb)
     is-held = numbered-held tb s (found .0) (λ z. nz (sym is-n ∙ z))
+
     mine : numbered n tb ∈ held (numbered n tb .holder) tb
     mine = in-held (numbered n tb .holder) tb (found .0) refl
+
     at : Stands (ownerOf n tb) (numbered n tb .holder) tb
     at = owner-stands tb s (found .0) is-held
+
     live : Live (transactionAt (numbered n tb .holder) tb)
     live = s .holders-live (numbered n tb) (found .0) is-held

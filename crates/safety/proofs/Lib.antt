@@ -12,3 +12,5 @@ pub mod Calls
 pub mod Ends
 pub mod Reenlisted
 pub mod Steps
+pub mod Restarts
+pub mod Safety

@@ -2,11 +2,11 @@
 use Prim.Native.Nat.{ℕ}
 use mathlib.Core.Path.{_≡_, refl, sym, _∙_, ap}
 use mathlib.Core.Logic.{_⊎_, inl, inr}
-use mathlib.Core.Bool.{Bool, true, false, cond, true≢false}
+use mathlib.Core.Bool.{Bool, true, false, true≢false}
 use mathlib.Core.List.{List, [], _∷_, _++_, map, List·Memᴰ·cases-cons, List·Memᴰ·append-cases, List·Memᴰ·not-nil}
 use lib.Dec.{eqb}
 use borrow.Author.Tests.{eq-eqb}
-use Rattle.lists.specs.Members.{_∈_, Each, Some}
+use Rattle.lists.specs.Members.{Each, Some}
 use Rattle.lists.specs.Sorting.{sortBy}
 use Rattle.lists.proofs.Tests.{by-test, by-either, of-map}
 use Rattle.lists.proofs.Sorting.{of-sort}
@@ -143,5 +143,6 @@ module _ (t : Id) (tb : Table) (e : Event) (ss : List Signal) where
     where
       committed : (m : New t Committed (map (messageOf tb e) ss)) → Some (λ s. messageOf tb e s ≡ m .it) ss → ⊥
       committed m s = by-either (λ w. d (sym (m .holds .0) ∙ sym (ap (λ (m : Message). m .about) (s .holds)) ∙ w)) (λ w. is-not-committed (s .it .name) (w .0) (rw (← s .holds) at (m .holds .1))) (ad (s .it) (s .there))
+
       aborted : (m : New t Aborted (map (messageOf tb e) ss)) → Some (λ s. messageOf tb e s ≡ m .it) ss → ⊥
       aborted m s = by-either (λ w. d (sym (m .holds .0) ∙ sym (ap (λ (m : Message). m .about) (s .holds)) ∙ w)) (λ w. is-not-aborted (s .it .name) (w .1) (rw (← s .holds) at (m .holds .1))) (ad (s .it) (s .there))

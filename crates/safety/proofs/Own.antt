@@ -4,17 +4,16 @@ use Prim.Native.Nat.{ℕ, _+_, _*_, _-_, _≤_, _<_}
 use native.Mathlib.Omega.{arith}
 use mathlib.Core.Path.{_≡_, refl, sym, _∙_, ap, ap₂}
 use mathlib.Core.Logic.{_⊎_, inl, inr}
-use mathlib.Core.Bool.{Bool, true, false, cond, not, _&&_, true≢false, false≢true}
-use mathlib.Core.List.{List, [], _∷_, _++_, map, append-nil, List·Memᴰ·head, List·Memᴰ·tail, List·Memᴰ·cases-cons, List·Memᴰ·not-nil, Memᴰ·cast}
+use mathlib.Core.Bool.{Bool, true, false, cond, _&&_}
+use mathlib.Core.List.{List, [], _∷_, _++_, map, append-nil, List·Memᴰ·head, List·Memᴰ·cases-cons, List·Memᴰ·not-nil, Memᴰ·cast}
 use lib.ListN.{length, take, length-append, length-map}
-use lib.Dec.{eqb, ltb}
+use lib.Dec.{eqb}
 use borrow.Author.Tests.{eqb-true, eqb-false, eq-eqb, ne-eqb, ltb-false}
 use Rattle.lists.specs.Members.{_∈_, Each, Some}
 use Rattle.lists.specs.Lists.{all, any, none, filter}
 use Rattle.lists.specs.Sorting.{insertBy, sortBy}
-use Rattle.lists.proofs.Tests.{by-test, by-either, no-clash, true-and, not-true, not-false, false-not, in-filter, of-filter, length-filter, in-map, of-map, all-each, any-some, some-any, none-each, each-nothing, each-more, each-head, each-rest, each-map}
+use Rattle.lists.proofs.Tests.{by-test, by-either, no-clash, true-and, not-true, not-false, in-filter, of-filter, length-filter, in-map, all-each, any-some, none-each, each-nothing, each-more, each-head, each-rest, each-map}
 use Rattle.lists.proofs.Sorting.{in-sort, of-sort, length-sort}
-use Rattle.lists.proofs.Places.{in-places}
 use Rattle.rules.specs.declared.Enlistment.{Enlistment}
 use Rattle.rules.specs.declared.Table.{Table}
 use Rattle.rules.specs.declared.Event.{Event}
@@ -23,25 +22,25 @@ use Rattle.rules.specs.declared.Name.the-variants as name
 use Rattle.rules.specs.Kinds as kind
 use Rattle.rules.specs.TransactionState as transaction
 use Rattle.rules.specs.EnlistmentState as enlistment
-use Rattle.rules.specs.Sizes.{identifierSize, largestNumber, heldMost, recordSize, entrySize}
+use Rattle.rules.specs.Sizes.{identifierSize, largestNumber, heldMost, entrySize}
 use Rattle.rules.specs.Identifiers.{Id, sameBytes}
-use Rattle.rules.specs.Table.{noTransaction, isNamed, transactionAt, stateAt, idAt, held, isDurable, isMarked, isIn, isDone, inState, changeHeld, changeTransaction, goTo, emptied, useMore}
-use Rattle.rules.specs.Sound.{isOpen, openPlaces, openCount, In, Durable}
+use Rattle.rules.specs.Table.{transactionAt, stateAt, idAt, held, isDurable, isMarked, isIn, isDone, inState, changeHeld, changeTransaction, goTo, emptied, useMore}
+use Rattle.rules.specs.Sound.{openCount, Durable}
 use Rattle.rules.specs.Log.{Entry, Record, low4, recordBytes, entryBytes, entriesBytes, allBytes, commitSize, forgetSize, written}
 use Rattle.rules.specs.Signals.{byNumber, signal, toEach, toApp}
 use Rattle.rules.specs.Events.{Outcome, quietly, saying, append, endOf, endIfDone, hearsAbort, abortedOf, abortOf, entryOf, commitRecord, lacksRoom, committedOf, commitSignals, committing, endCommitted, decideOf, startPhaseOne}
 use Rattle.rules.proofs.Identifiers.{same-refl, other-not-same}
 use Rattle.rules.proofs.Records.{ValidEntry, Valid, valid-commit, valid-forget}
-use Rattle.rules.proofs.Frames.{Keeps, held-came, held-own, named-is, named-other, named-place, written-used, Stands, stands-goes, state-goes, held-transaction}
+use Rattle.rules.proofs.Frames.{Keeps, held-came, held-own, named-is, named-other, written-used, Stands, stands-goes, state-goes}
 use Rattle.safety.specs.World.{Note, noteOf, messageOf, subjectOf}
 use Rattle.safety.specs.Host.{Prepares, Closes, careful, Makes}
-use Rattle.safety.specs.Demand3.{Committed, Aborted}
+use Rattle.safety.specs.Demand3.{Committed}
 use Rattle.safety.proofs.Alone as alone
-use Rattle.safety.proofs.Alone.{Story, closed, View, out, early, voting, aborting, Hopes, Waits, Unasked, Preparing, NoDurable, New}
-use Rattle.safety.proofs.Move.{Calm, NotEnlisted, VoteOf, Doomed, d-voting, d-aborting, Gone, g-out, g-aborting, Move, prepare, ask-one, commit-empty, decide-logged, decide-unlogged, decide-empty, abort, told-on, end-logged, end-unlogged}
+use Rattle.safety.proofs.Alone.{Story, closed, early, voting, aborting, Hopes, Waits, Unasked, Preparing, NoDurable, New}
+use Rattle.safety.proofs.Move.{Calm, NotEnlisted, VoteOf, Doomed, d-voting, d-aborting, g-out, g-aborting, Move, prepare, ask-one, commit-empty, decide-logged, decide-unlogged, decide-empty, abort, told-on, end-logged, end-unlogged}
 use Rattle.safety.proofs.Top.{Agrees}
 use Rattle.safety.proofs.Story.{next, story, managersOf, onForget}
-use Rattle.safety.proofs.View.{viewOf, look, view-goes, goes-other, view-ends, ends-other, view-more, state-held, stands-held}
+use Rattle.safety.proofs.View.{viewOf, view-goes, goes-other, view-ends, ends-other, view-more, stands-held}
 use Rattle.safety.proofs.Messages.{notCommitted, notAborted, Only, only-nothing, only-one, only-each, only-both, Addressed, Owned, owned-about, addressed-nothing, addressed-one, addressed-each, addressed-both, none-committed, none-aborted, quiet}
 
 pub by-cases : {A : Type 0} (P : A → Type 0) (b : Bool) (x y : A) → (b ≡ true → P x) → (b ≡ false → P y) → P (cond b x y)
@@ -111,8 +110,14 @@ module _ (tb : Table) (e : Event) (log : List ℕ) (t : Id) (p : ℕ) (tb₁ : T
       → Own tb e log t (record { table = tb₂; log = log; signals = ss })
   unfolding story
   unlogged tb₂ ss ad us ov mv = record {
-    records = []; valid = each-nothing Valid; bytes = rw (us ∙ z .used) nothing-added; other-story = λ u d s. refl; other-view = λ u d. ov u d ∙ z .other-view u d;
-    addressed = ad; move = mv }
+    records = [];
+    valid = each-nothing Valid;
+    bytes = rw (us ∙ z .used) nothing-added;
+    other-story = λ u d s. refl;
+    other-view = λ u d. ov u d ∙ z .other-view u d;
+    addressed = ad;
+    move = mv;
+  }
 
   -- ── abort ─────────────────────────────────────────────────────────────────────────────────────────────────────
 
@@ -124,25 +129,32 @@ module _ (tb : Table) (e : Event) (log : List ℕ) (t : Id) (p : ℕ) (tb₁ : T
   unfolding abortOf endIfDone
   own-abort d = rw (unlogged-end p tb₂ log (λ q. six-five (sym (state-goes t p transaction.aborting (changeHeld p abortedOf tb₁) (stands-held t p p abortedOf tb₁ (z .stands))) ∙ q)))
       (by-cases (λ o. O (saying ss o)) (all isDone (held p tb₂)) (quietly (emptied p tb₂) log) (quietly tb₂ log)
-        (λ _. unlogged (emptied p tb₂) ss addressed (used-emptied p tb₂ ∙ used-goes p transaction.aborting abortedOf tb₁) (λ u n. ends-for t p tb₂ at u n ∙ others u n)
-          (λ h f l a. rw (view-ends t p tb₂ at) (abort refl d g-out silent)))
-        (λ _. unlogged tb₂ ss addressed (used-goes p transaction.aborting abortedOf tb₁) others
-          (λ h f l a. rw (view-goes t p tb₁ (z .stands) transaction.aborting abortedOf (λ q. omega arith)) (abort refl d g-aborting silent))))
+      (λ _. unlogged (emptied p tb₂) ss addressed (used-emptied p tb₂ ∙ used-goes p transaction.aborting abortedOf tb₁) (λ u n. ends-for t p tb₂ at u n ∙ others u n)
+      (λ h f l a. rw (view-ends t p tb₂ at) (abort refl d g-out silent)))
+      (λ _. unlogged tb₂ ss addressed (used-goes p transaction.aborting abortedOf tb₁) others
+      (λ h f l a. rw (view-goes t p tb₁ (z .stands) transaction.aborting abortedOf (λ q. omega arith)) (abort refl d g-aborting silent))))
     where
       tb₂ : Table
       tb₂ = goTo p transaction.aborting (changeHeld p abortedOf tb₁)
+
       at : Stands t p tb₂
       at = stands-goes t p transaction.aborting (changeHeld p abortedOf tb₁) (stands-held t p p abortedOf tb₁ (z .stands)) (λ q. omega arith)
+
       six-five : _≡_ {A = ℕ} transaction.aborting transaction.committing → ⊥
       six-five q = omega arith
+
       hs : List Enlistment
       hs = filter hearsAbort hs₁
+
       ss : List Signal
       ss = toEach name.Abort hs ++ toApp name.AppAborted
+
       addressed : Addressed tb e ss
       addressed = addressed-both tb e (toEach name.Abort hs) (toApp name.AppAborted) (addressed-each tb e name.Abort hs (λ x m. home x (of-filter hearsAbort hs₁ m .0))) (addressed-one tb e name.AppAborted 0 (inl refl))
+
       others : (u : Id) → (u ≡ t → ⊥) → viewOf u tb₂ ≡ viewOf u tb₁
       others u n = goes-other t p tb₁ (z .stands) transaction.aborting abortedOf u keeps-aborted n
+
       silent : New t Committed (map (messageOf tb e) ss) → ⊥
       silent = none-committed t tb e ss (only-both notCommitted (toEach name.Abort hs) (toApp name.AppAborted) (only-each notCommitted name.Abort hs refl) (only-one notCommitted name.AppAborted 0 refl))
 
@@ -219,9 +231,9 @@ module _ (tb : Table) (e : Event) (log : List ℕ) (t : Id) (p : ℕ) (tb₁ : T
     decide-volatile : any isDurable hs₁ ≡ false → O (saying (commitSignals hs₁) (quietly (committing p tb₁) log))
     decide-volatile nd = unlogged (committing p tb₁) (commitSignals hs₁) commit-home (used-goes p transaction.committing committedOf tb₁) (λ u n. goes-other t p tb₁ (z .stands) transaction.committing committedOf u keeps-committed n)
         (λ h f l a. rw (isv, view-goes t p tb₁ (z .stands) transaction.committing committedOf (λ q. omega arith))
-          (decide-unlogged refl (v .calm) (none-aborted t tb e (commitSignals hs₁) commit-not-aborted) all-voted
-            (λ r w. let y : Some (Hopes r) hs₁ = hoping r w in no-durable-of hs₁ nd (y .it) (y .there) (y .holds .0))
-            (λ x m k. let c : Some (λ y. x ≡ committedOf y) hs₁ = held-came p committedOf tb₁ m in no-durable-of hs₁ nd (c .it) (c .there) (sym (committed-kept (c .it) .1) ∙ sym (ap (λ (y : Enlistment). y .kind) (c .holds)) ∙ k))))
+        (decide-unlogged refl (v .calm) (none-aborted t tb e (commitSignals hs₁) commit-not-aborted) all-voted
+        (λ r w. let y : Some (Hopes r) hs₁ = hoping r w in no-durable-of hs₁ nd (y .it) (y .there) (y .holds .0))
+        (λ x m k. let c : Some (λ y. x ≡ committedOf y) hs₁ = held-came p committedOf tb₁ m in no-durable-of hs₁ nd (c .it) (c .there) (sym (committed-kept (c .it) .1) ∙ sym (ap (λ (y : Enlistment). y .kind) (c .holds)) ∙ k))))
 
     module _ (d : any isDurable hs₁ ≡ true) (fits : tb₁ .used + commitSize (length (filter isDurable hs₁)) ≤ length log) where
       ds : List Enlistment
@@ -247,7 +259,7 @@ module _ (tb : Table) (e : Event) (log : List ℕ) (t : Id) (p : ℕ) (tb₁ : T
 
       ok : Valid (Record.commit t entries)
       ok = valid-commit {es = entries} id-size (rw as-many (positive (filter isDurable hs₁) (in-filter isDurable hs₁ (durables .there) (eq-eqb (durables .it .kind) kind.durable (durables .holds)))))
-        (rw as-many (omega (arith, length-filter isDurable hs₁, z .few))) entries-ok
+          (rw as-many (omega (arith, length-filter isDurable hs₁, z .few))) entries-ok
 
       listed : (q : Id) → Some (Hopes q) hs₁ → q ∈ managersOf entries
       unfolding entries ds
@@ -260,15 +272,17 @@ module _ (tb : Table) (e : Event) (log : List ℕ) (t : Id) (p : ℕ) (tb₁ : T
       decide-durable : O (saying (commitSignals hs₁) (append (commitRecord (idAt p tb₁) hs₁) (committing p tb₁) log))
       unfolding append commitRecord useMore story next allBytes entries ds
       decide-durable = rw own-id (record {
-        records = Record.commit t entries ∷ []; valid = each-more ok (each-nothing Valid);
+        records = Record.commit t entries ∷ [];
+        valid = each-more ok (each-nothing Valid);
         bytes = ap (λ n. take (n + length bs) (written n bs log)) (used-goes p transaction.committing committedOf tb₁) ∙ written-used (tb₁ .used) bs log (rw size fits) ∙ ap₂ (λ n l. take n log ++ l) (z .used) (sym (append-nil bs));
         other-story = λ u n s. rw (not-same u n) refl;
         other-view = λ u n. view-more u (length bs) (committing p tb₁) ∙ goes-other t p tb₁ (z .stands) transaction.committing committedOf u keeps-committed n ∙ z .other-view u n;
         addressed = commit-home;
         move = λ h f l a. rw (isv, view-more t (length bs) (committing p tb₁) ∙ view-goes t p tb₁ (z .stands) transaction.committing committedOf (λ q. omega arith))
-          (decide-logged {rs = managersOf entries} (rw (same-refl t, rw isv at a) refl) (v .calm) (none-aborted t tb e (commitSignals hs₁) commit-not-aborted) all-voted
+            (decide-logged {rs = managersOf entries} (rw (same-refl t, rw isv at a) refl) (v .calm) (none-aborted t tb e (commitSignals hs₁) commit-not-aborted) all-voted
             (λ q w. (held-own (Hopes q) (Waits q) p committedOf tb₁ (λ x _ y. (commit-waits q x y, committed-kept x .0)) (hoping q w), listed q (hoping q w)))
-            (held-own Durable Durable p committedOf tb₁ (λ x _ k. (committed-kept x .1 ∙ k, committed-kept x .0)) durables)) })
+            (held-own Durable Durable p committedOf tb₁ (λ x _ k. (committed-kept x .1 ∙ k, committed-kept x .0)) durables));
+      })
         where
           bs : List ℕ
           bs = recordBytes (Record.commit t entries)
@@ -290,7 +304,7 @@ module _ (tb : Table) (e : Event) (log : List ℕ) (t : Id) (p : ℕ) (tb₁ : T
   unfolding endIfDone
   own-end-aborting isv st isv₁ = rw (unlogged-end p tb₁ log (λ q. omega (arith, st, q))) (by-cases O (all isDone hs₁) (quietly (emptied p tb₁) log) (quietly tb₁ log)
       (λ _. unlogged (emptied p tb₁) [] (addressed-nothing tb e) (used-emptied p tb₁) (ends-for t p tb₁ (z .stands))
-        (λ h f l a. rw (isv, view-ends t p tb₁ (z .stands)) (abort refl d-aborting g-out (none-committed t tb e [] (only-nothing notCommitted)))))
+      (λ h f l a. rw (isv, view-ends t p tb₁ (z .stands)) (abort refl d-aborting g-out (none-committed t tb e [] (only-nothing notCommitted)))))
       (λ _. unlogged tb₁ [] (addressed-nothing tb e) refl (λ u n. refl) (λ h f l a. rw (isv, isv₁) (abort refl d-aborting g-aborting (none-committed t tb e [] (only-nothing notCommitted))))))
 
   -- what an event after the decision to commit has done
@@ -315,23 +329,26 @@ module _ (tb : Table) (e : Event) (log : List ℕ) (t : Id) (p : ℕ) (tb₁ : T
     end-durable : any isDurable hs₁ ≡ true → all isDone hs₁ ≡ true → tb₁ .used + forgetSize ≤ length log → O (append (Record.forget (idAt p tb₁)) (emptied p tb₁) log)
     unfolding append useMore story next allBytes recordBytes
     end-durable d dn fits = rw own-id (record {
-      records = Record.forget t ∷ []; valid = each-more (valid-forget id-size) (each-nothing Valid);
+      records = Record.forget t ∷ [];
+      valid = each-more (valid-forget id-size) (each-nothing Valid);
       bytes = ap (λ n. take (n + length bs) (written n bs log)) (used-emptied p tb₁) ∙ written-used (tb₁ .used) bs log (omega (arith, fits, size)) ∙ ap₂ (λ n l. take n log ++ l) (z .used) (sym (append-nil bs));
       other-story = λ u n s. rw (not-same u n) refl;
       other-view = λ u n. view-more u (length bs) (emptied p tb₁) ∙ ends-for t p tb₁ (z .stands) u n ∙ z .other-view u n;
       addressed = addressed-nothing tb e;
       move = λ h f l a. rw (same-refl t, isv, view-more t (length bs) (emptied p tb₁) ∙ view-ends t p tb₁ (z .stands))
-        (end-logged (closes l (rw isv at a) (some-durable-of hs₁ d)) (w .calm) (quiet t tb e [] (only-nothing notCommitted) (only-nothing notAborted)) (λ r y. closing dn r (w .waits r y))) })
+          (end-logged (closes l (rw isv at a) (some-durable-of hs₁ d)) (w .calm) (quiet t tb e [] (only-nothing notCommitted) (only-nothing notAborted)) (λ r y. closing dn r (w .waits r y)));
+    })
       where
         bs : List ℕ
         bs = recordBytes (Record.forget t)
+
         size : length bs ≡ forgetSize
         size = rw id-size refl
 
     end-volatile : any isDurable hs₁ ≡ false → O (quietly (emptied p tb₁) log)
     end-volatile n = unlogged (emptied p tb₁) [] (addressed-nothing tb e) (used-emptied p tb₁) (ends-for t p tb₁ (z .stands))
         (λ h f l a. rw (isv, view-ends t p tb₁ (z .stands)) (end-unlogged refl (w .calm) (quiet t tb e [] (only-nothing notCommitted) (only-nothing notAborted))
-          (λ x m k. let d : Some Durable hs₁ = w .durable (record { it = x; there = m; holds = k }) in no-durable-of hs₁ n (d .it) (d .there) (d .holds))))
+        (λ x m k. let d : Some Durable hs₁ = w .durable (record { it = x; there = m; holds = k }) in no-durable-of hs₁ n (d .it) (d .there) (d .holds))))
 
     end-waits : viewOf t tb₁ ≡ alone.committing hs₁ → O (quietly tb₁ log)
     end-waits isv₁ = unlogged tb₁ [] (addressed-nothing tb e) refl (λ u n. refl)
@@ -360,23 +377,25 @@ module _ (tb : Table) (e : Event) (log : List ℕ) (t : Id) (p : ℕ) (tb₁ : T
     start-one (x ∷ y ∷ es) q o = absurd (omega (arith, eqb-true (length (x ∷ y ∷ es)) 1 o))
     start-one (x ∷ []) q o = unlogged (goTo p transaction.singlePhase (changeHeld p (inState enlistment.onePhase) tb₁)) (toEach name.Single hs₁) (addressed-each tb e name.Single hs₁ home) (used-goes p transaction.singlePhase (inState enlistment.onePhase) tb₁) (λ u n. goes-other t p tb₁ (z .stands) transaction.singlePhase (inState enlistment.onePhase) u (keeps-state enlistment.onePhase) n)
         (λ h f l a. rw (isv, view-goes t p tb₁ (z .stands) transaction.singlePhase (inState enlistment.onePhase) (λ q. omega arith))
-          (ask-one {n₀ = x .number} refl calm (quiet t tb e (toEach name.Single hs₁) (only-each notCommitted name.Single hs₁ refl) (only-each notAborted name.Single hs₁ refl))
-            (λ m w. let y : Some (Unasked m) hs₁ = unasked m w in sym (y .holds .0) ∙ only (y .it) (y .there))
-            (λ y m. let c : Some (λ w. y ≡ inState enlistment.onePhase w) hs₁ = held-came p (inState enlistment.onePhase) tb₁ m in ap (λ (y : Enlistment). y .number) (c .holds) ∙ only (c .it) (c .there))
-            (there q)))
+        (ask-one {n₀ = x .number} refl calm (quiet t tb e (toEach name.Single hs₁) (only-each notCommitted name.Single hs₁ refl) (only-each notAborted name.Single hs₁ refl))
+        (λ m w. let y : Some (Unasked m) hs₁ = unasked m w in sym (y .holds .0) ∙ only (y .it) (y .there))
+        (λ y m. let c : Some (λ w. y ≡ inState enlistment.onePhase w) hs₁ = held-came p (inState enlistment.onePhase) tb₁ m in ap (λ (y : Enlistment). y .number) (c .holds) ∙ only (c .it) (c .there))
+        (there q)))
       where
         only : (y : Enlistment) → y ∈ hs₁ → y .number ≡ x .number
         only y m = ap (λ (y : Enlistment). y .number) (by-either (λ r. r) (λ r. absurd (List·Memᴰ·not-nil r)) (List·Memᴰ·cases-cons (rw q at m)))
+
         mine : t ≡ messageOf tb e (signal name.Single (x .number)) .about
         mine = sym about ∙ sym (owned-about tb e name.Single (x .number) (home x (rw q (List·Memᴰ·head refl))))
+
         there : hs₁ ≡ x ∷ [] → record { about = t; name = name.Single; number = x .number } ∈ map (messageOf tb e) (toEach name.Single hs₁)
         there q = rw q (List·Memᴰ·head (λ i. record { about = mine i; name = name.Single; number = x .number }))
 
     start-many : O (saying (toEach name.Prepare hs₁) (quietly (goTo p transaction.phaseOne (changeHeld p (inState enlistment.preparing) tb₁)) log))
     start-many = unlogged (goTo p transaction.phaseOne (changeHeld p (inState enlistment.preparing) tb₁)) (toEach name.Prepare hs₁) (addressed-each tb e name.Prepare hs₁ home) (used-goes p transaction.phaseOne (inState enlistment.preparing) tb₁) (λ u n. goes-other t p tb₁ (z .stands) transaction.phaseOne (inState enlistment.preparing) u (keeps-state enlistment.preparing) n)
         (λ h f l a. rw (isv, view-goes t p tb₁ (z .stands) transaction.phaseOne (inState enlistment.preparing) (λ q. omega arith))
-          (prepare refl calm (quiet t tb e (toEach name.Prepare hs₁) (only-each notCommitted name.Prepare hs₁ refl) (only-each notAborted name.Prepare hs₁ refl))
-            (λ m w. held-own (Unasked m) (Preparing m) p (inState enlistment.preparing) tb₁ (λ x _ u. ((u .0, refl), refl)) (unasked m w))))
+        (prepare refl calm (quiet t tb e (toEach name.Prepare hs₁) (only-each notCommitted name.Prepare hs₁ refl) (only-each notAborted name.Prepare hs₁ refl))
+        (λ m w. held-own (Unasked m) (Preparing m) p (inState enlistment.preparing) tb₁ (λ x _ u. ((u .0, refl), refl)) (unasked m w))))
 
     pub own-start : (stateAt p tb₁ ≡ transaction.committing → ⊥) → O (startPhaseOne p tb₁ log)
     unfolding startPhaseOne

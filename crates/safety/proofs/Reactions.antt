@@ -1,20 +1,19 @@
 -- The events about one enlistment: what each reaction is to the transaction that holds it.
-use Prim.Native.Nat.{ℕ, _+_, _*_, _≤_}
+use Prim.Native.Nat.{ℕ, _+_, _≤_}
 use native.Mathlib.Omega.{arith}
 use native.Mathlib.Decide.{ℕ-discrete}
 use mathlib.Core.Path.{_≡_, refl, sym, _∙_, ap, subst}
 use mathlib.Core.Logic.{_⊎_, inl, inr}
-use mathlib.Core.Bool.{Bool, true, false, cond, _&&_, _||_, true≢false, false≢true}
+use mathlib.Core.Bool.{true, false, _||_, true≢false}
 use mathlib.Core.List.{List, [], _∷_, map, List·Memᴰ·not-nil}
 use lib.ListN.{length}
 use lib.Dec.{eqb}
 use borrow.Author.Tests.{eqb-true, eqb-false, eq-eqb, ne-eqb}
-use Rattle.lists.specs.Members.{_∈_, Each, Some}
+use Rattle.lists.specs.Members.{_∈_, Some}
 use Rattle.lists.specs.Lists.{any}
-use Rattle.lists.proofs.Tests.{by-test, by-either, no-clash, true-or, false-or, not-true, false-not, any-some, some-any}
+use Rattle.lists.proofs.Tests.{by-either, true-or, not-true, any-some, some-any}
 use Rattle.lists.proofs.Places.{in-places}
 use Rattle.rules.specs.declared.Enlistment.{Enlistment}
-use Rattle.rules.specs.declared.Transaction.{Transaction}
 use Rattle.rules.specs.declared.Table.{Table}
 use Rattle.rules.specs.declared.TxId.{TxId}
 use Rattle.rules.specs.declared.RmId.{RmId}
@@ -33,15 +32,15 @@ use Rattle.rules.specs.declared.FollowUp.the-variants as then
 use Rattle.rules.specs.Kinds as kind
 use Rattle.rules.specs.TransactionState as transaction
 use Rattle.rules.specs.EnlistmentState as enlistment
-use Rattle.rules.specs.Sizes.{identifierSize, largestNumber, heldMost}
+use Rattle.rules.specs.Sizes.{identifierSize, largestNumber}
 use Rattle.rules.specs.Identifiers.{Id}
-use Rattle.rules.specs.Table.{noTransaction, isLive, isNamed, transactionAt, stateAt, idAt, held, numbered, isNumbered, isPhaseZero, durableKind, isDurable, isIn, inState, freed, onNumber, changeHeld, changeNumber, emptied}
-use Rattle.rules.specs.Sound.{Sound, In, Durable, PhaseZero, isOpen, openPlaces, openCount}
+use Rattle.rules.specs.Table.{noTransaction, transactionAt, stateAt, held, numbered, isNumbered, isPhaseZero, durableKind, isDurable, isIn, inState, freed, onNumber, changeHeld, changeNumber, emptied}
+use Rattle.rules.specs.Sound.{Sound, In, Durable, PhaseZero, isOpen, openPlaces}
 use Rattle.rules.specs.Log.{forgetSize}
 use Rattle.rules.specs.Signals.{toApp}
-use Rattle.rules.specs.Events.{Outcome, quietly, saying, endOf, abortOf, decideOf, startPhaseOne, toVote, toReply, toLost, reactionOf, follow, react, reactedOf}
+use Rattle.rules.specs.Events.{Outcome, quietly, saying, toVote, toReply, toLost, reactionOf, follow, react}
 use Rattle.rules.specs.Refusals.{isRefused}
-use Rattle.rules.proofs.Frames.{Keeps, of-held, held-came, held-own, held-shorter, named-is, named-other, named-place, not-zero, Stands}
+use Rattle.rules.proofs.Frames.{of-held, held-came, held-own, held-shorter, named-is, named-other, named-place, not-zero, Stands}
 use Rattle.safety.specs.World.{Note, ownerOf, told, noteOf, messageOf, subjectOf}
 use Rattle.safety.specs.Host.{Prepares, Closes}
 use Rattle.safety.specs.Demand3.{Votes, Yes}
@@ -50,9 +49,9 @@ use Rattle.safety.proofs.Alone.{Story, Hopes, Waits, Unasked, Preparing
 use Rattle.safety.proofs.Move.{Calm, NotEnlisted, VoteOf, Doomed, d-early, d-voting, d-single, g-out, Move, gather, vote-on, abort, replied, told-on}
 use Rattle.safety.proofs.Top.{Agrees}
 use Rattle.safety.proofs.View.{viewOf, look, view-stands, view-changes, view-held-other, view-ends, state-held, stands-held}
-use Rattle.safety.proofs.Given.{stands-sound, id-size, owner-held, Row, in-active, in-zero, in-voting, in-single, in-commit, in-abort, row, Named}
+use Rattle.safety.proofs.Given.{id-size, owner-held, Row, in-active, in-zero, in-voting, in-single, in-commit, in-abort, Named}
 use Rattle.safety.proofs.Messages.{notCommitted, notAborted, only-nothing, only-one, Owned, addressed-nothing, addressed-one, none-committed, none-aborted, quiet}
-use Rattle.safety.proofs.Own.{by-cases, Own, Touched, unlogged, unlogged-end, used-emptied, ends-for, own-abort, Voted, own-decide, own-end-aborting, Told, own-end-committing, own-start}
+use Rattle.safety.proofs.Own.{by-cases, Own, Touched, unlogged, unlogged-end, used-emptied, ends-for, own-abort, Voted, own-decide, own-end-aborting, own-end-committing, own-start}
 
 -- ── the state of the transaction, by that of its enlistment ─────────────────────────────────────────────────────
 
@@ -116,6 +115,7 @@ nothing-calm t = record { not-enlisted = λ n r k q. no₁ n r k q; not-prepared
   where
     no₁ : (m : ℕ) (r : Id) (k : ℕ) → Note.nothing ≡ Note.enlisted t m r k → ⊥
     no₁ m r k q = let z : _≡_ {A = ℕ} 0 1 = cc in omega arith
+
     no₂ : (r : Id) (m : ℕ) → Note.nothing ≡ Note.voted t m r kind.durable vote.Prepared → ⊥
     no₂ r m q = let z : _≡_ {A = ℕ} 0 1 = cc in omega arith
 
@@ -136,7 +136,14 @@ module _ (tb : Table) (s : Sound tb) (t : Id) (p : ℕ) (at : Stands t p tb) whe
 
   pub untouched : Touched t p tb tb
   untouched = record {
-    used = refl; capacity = refl; stands = at; other-view = λ u d. refl; sized = λ x m. held-sized m; few = s .few p live; owned = λ x m. inr (owner-held tb s t p at m .1) }
+    used = refl;
+    capacity = refl;
+    stands = at;
+    other-view = λ u d. refl;
+    sized = λ x m. held-sized m;
+    few = s .few p live;
+    owned = λ x m. inr (owner-held tb s t p at m .1);
+  }
 
   pub low : tb .used ≤ tb .capacity
   low = omega (arith, s .room)
@@ -149,6 +156,7 @@ module _ (tb : Table) (s : Sound tb) (t : Id) (p : ℕ) (at : Stands t p tb) whe
       positive : (l : List ℕ) → p ∈ l → 1 ≤ length l
       positive [] m = absurd (List·Memᴰ·not-nil m)
       positive (y ∷ l) m = omega arith
+
       is-open : isOpen (stateAt p tb) (held p tb) ≡ true
       is-open = rw (st, some-any isDurable (held p tb) (record { it = d .it; there = d .there; holds = eq-eqb (d .it .kind) kind.durable (d .holds) })) refl
 
@@ -199,14 +207,18 @@ module _ (tb : Table) (log : List ℕ) (n : ℕ) (s : Sound tb) (full : length l
   touched : (f : Enlistment → Enlistment) → Mild f → Touched t p tb (changed f)
   unfolding changeHeld
   touched f mild = record {
-    used = refl; capacity = refl; stands = stands-held t p p (onNumber n f) tb (nm .stands);
+    used = refl;
+    capacity = refl;
+    stands = stands-held t p p (onNumber n f) tb (nm .stands);
     other-view = λ u d. view-held-other u p (onNumber n f) tb (λ e. by-either (λ q. inl (q .0)) inr (mild-on f mild e)) (named-other t u (transactionAt p tb) (nm .stands .here) d);
     sized = λ w m. sized w (was f mild m);
     few = omega (arith, held-shorter p (onNumber n f) tb, s .few p (live tb s t p (nm .stands)));
-    owned = λ w m. owned w (was f mild m) }
+    owned = λ w m. owned w (was f mild m);
+  }
     where
       sized : (w : Enlistment) → Some (λ e. (w .rm ≡ e .rm) × (w .number ≡ e .number)) hs → (length (w .rm .0) ≡ identifierSize) × (w .number ≤ largestNumber)
       sized w q = (ap (λ (r : RmId). length (r .0)) (q .holds .0) ∙ held-sized tb s t p (nm .stands) (q .there) .0, rw (q .holds .1) (held-sized tb s t p (nm .stands) (q .there) .1))
+
       owned : (w : Enlistment) → Some (λ e. (w .rm ≡ e .rm) × (w .number ≡ e .number)) hs → Owned tb t (w .number)
       owned w q = inr (rw (q .holds .1) (owner-held tb s t p (nm .stands) (q .there) .1))
 
@@ -267,31 +279,36 @@ module _ (tb : Table) (log : List ℕ) (n : ℕ) (s : Sound tb) (full : length l
     vote-more : (f : Enlistment → Enlistment) (mild : Mild f) → Has-voted f mild → Own tb ev log t (quietly (changed f) log)
     vote-more f mild w = unlogged tb ev log t p (changed f) (touched f mild) refl (changed f) [] (addressed-nothing tb ev) refl (λ u d. refl)
         (λ h made l a. rw (view-before transaction.phaseOne voting-state, view-after f transaction.phaseOne voting-state)
-          (vote-on refl (quiet t tb ev [] (only-nothing notCommitted) (only-nothing notAborted)) (w .calm) (w .preparing) (w .hopes) (w .prepares)))
+        (vote-on refl (quiet t tb ev [] (only-nothing notCommitted) (only-nothing notAborted)) (w .calm) (w .preparing) (w .hopes) (w .prepares)))
 
     vote-decides : (f : Enlistment → Enlistment) (mild : Mild f) → Has-voted f mild → Own tb ev log t (follow then.Decide p (changed f) log)
     unfolding follow
     vote-decides f mild w = by-cases (Own tb ev log t) (any (isIn enlistment.preparing) (held p (changed f))) _ _
         (λ _. vote-more f mild w)
         (λ q. own-decide tb ev log t p (changed f) (touched f mild) refl hs (view-before transaction.phaseOne voting-state) (own-id-size tb s t p (nm .stands)) w q
-          (full ∙ sym (touched f mild .capacity)) (rw (touched f mild .used, touched f mild .capacity) (low tb s t p (nm .stands)))
-          (λ c. omega (arith, c, state-after f transaction.phaseOne voting-state)))
+        (full ∙ sym (touched f mild .capacity)) (rw (touched f mild .used, touched f mild .capacity) (low tb s t p (nm .stands)))
+        (λ c. omega (arith, c, state-after f transaction.phaseOne voting-state)))
 
   own-vote : (v : Vote) → In enlistment.preparing me → Own tb (event (act.Vote n v)) log t (react (toVote v) p n tb log)
   unfolding react follow told
   own-vote vote.Prepared st = vote-decides vote.Prepared st (inState enlistment.prepared) (state-mild enlistment.prepared) (record {
-    calm = vote-calm vote.Prepared st; preparing = voted-preparing vote.Prepared st (inState enlistment.prepared) (inl refl);
+    calm = vote-calm vote.Prepared st;
+    preparing = voted-preparing vote.Prepared st (inState enlistment.prepared) (inl refl);
     hopes = λ r h. keep-others (Hopes r) (inState enlistment.prepared) (not-hoping vote.Prepared st r) h;
-    prepares = λ r q. own-after (Hopes r) (inState enlistment.prepared) (kind-of r q, rm-of r q, inl refl) refl })
+    prepares = λ r q. own-after (Hopes r) (inState enlistment.prepared) (kind-of r q, rm-of r q, inl refl) refl;
+  })
     where
       kind-of : (r : Id) → Prepares t r (Note.voted t n (me .rm .0) (me .kind) vote.Prepared) → me .kind ≡ kind.durable
       kind-of r (m, q) = cc
+
       rm-of : (r : Id) → Prepares t r (Note.voted t n (me .rm .0) (me .kind) vote.Prepared) → me .rm .0 ≡ r
       rm-of r (m, q) = cc
   own-vote vote.ReadOnly st = vote-decides vote.ReadOnly st freed freed-mild (record {
-    calm = vote-calm vote.ReadOnly st; preparing = voted-preparing vote.ReadOnly st freed (inr refl);
+    calm = vote-calm vote.ReadOnly st;
+    preparing = voted-preparing vote.ReadOnly st freed (inr refl);
     hopes = λ r h. keep-others (Hopes r) freed (not-hoping vote.ReadOnly st r) h;
-    prepares = λ r q. absurd (other r q) })
+    prepares = λ r q. absurd (other r q);
+  })
     where
       other : (r : Id) → Prepares t r (Note.voted t n (me .rm .0) (me .kind) vote.ReadOnly) → ⊥
       other r (m, q) = let z : _≡_ {A = ℕ} 0 1 = cc in omega arith
@@ -309,6 +326,7 @@ module _ (tb : Table) (log : List ℕ) (n : ℕ) (s : Sound tb) (full : length l
     where
       c : Some (λ e. w ≡ onNumber n (inState k) e) hs
       c = held-came p (onNumber n (inState k)) tb m
+
       same : (e : Enlistment) → onNumber n (inState k) e .kind ≡ e .kind
       same e = by-cases (λ (w : Enlistment). w .kind ≡ e .kind) (isNumbered n e) (inState k e) e (λ _. refl) (λ _. refl)
 
@@ -322,7 +340,7 @@ module _ (tb : Table) (log : List ℕ) (n : ℕ) (s : Sound tb) (full : length l
       go : Dec (h .it .number ≡ n) → Some (Waits r) (held p (changed (inState k))) ⊎ ((me .rm .0 ≡ r) × Durable me)
       go (yes q) = inr (rw (nm .only (h .there) q) (h .holds .1, h .holds .0))
       go (no q) = inl (held-own (λ e. h .it ≡ e) (Waits r) p (onNumber n (inState k)) tb
-        (λ e m d. rw (← d, left-alone (inState k) (h .it) q) (h .holds, refl)) (record { it = h .it; there = h .there; holds = refl }))
+          (λ e m d. rw (← d, left-alone (inState k) (h .it) q) (h .holds, refl)) (record { it = h .it; there = h .there; holds = refl }))
 
   -- its forget record fits, if it is open still
   room-after : (k : ℕ) → stateAt p tb ≡ transaction.committing → any isDurable (held p (changed (inState k))) ≡ true → changed (inState k) .used + forgetSize ≤ length log
@@ -340,7 +358,9 @@ module _ (tb : Table) (log : List ℕ) (n : ℕ) (s : Sound tb) (full : length l
         (record {
           calm = calm;
           waits = λ r h. by-either inl (λ q. inr (rw (q .0) at (closes (q .1)))) (waits-stays enlistment.done r h);
-          durable = durable-stays enlistment.done; no-durable = none-stays enlistment.done })
+          durable = durable-stays enlistment.done;
+          no-durable = none-stays enlistment.done;
+        })
         (own-id-size tb s t p (nm .stands)) (view-after (inState enlistment.done) transaction.committing st) (room-after enlistment.done st)
 
   done-aborting : (a : Act) → subjectOf tb (event a) ≡ t → stateAt p tb ≡ transaction.aborting → Own tb (event a) log t (follow then.End p (changed (inState enlistment.done)) log)
@@ -353,6 +373,7 @@ module _ (tb : Table) (log : List ℕ) (n : ℕ) (s : Sound tb) (full : length l
     where
       no₁ : (m : ℕ) (r : Id) (k : ℕ) → Note.acked t n (me .rm .0) ≡ Note.enlisted t m r k → ⊥
       no₁ m r k q = let z : _≡_ {A = ℕ} 0 1 = cc in omega arith
+
       no₂ : (r : Id) (m : ℕ) → Note.acked t n (me .rm .0) ≡ Note.voted t m r kind.durable vote.Prepared → ⊥
       no₂ r m q = let z : _≡_ {A = ℕ} 0 1 = cc in omega arith
 
@@ -392,16 +413,19 @@ module _ (tb : Table) (log : List ℕ) (n : ℕ) (s : Sound tb) (full : length l
   unfolding react follow told
   own-zero-done st = by-cases (Own tb ev log t) (any isPhaseZero (held p (changed freed))) _ _
       (λ _. unlogged tb ev log t p (changed freed) (touched freed freed-mild) refl (changed freed) [] (addressed-nothing tb ev) refl (λ u d. refl)
-        (λ h made l g. rw (view-before transaction.phaseZero (two .0), view-after freed transaction.phaseZero (two .0))
-          (gather refl (nothing-calm t .not-prepared) (quiet t tb ev [] (only-nothing notCommitted) (only-nothing notAborted)) unasked (λ m r k q w. absurd (nothing-calm t .not-enlisted m r k q)))))
+      (λ h made l g. rw (view-before transaction.phaseZero (two .0), view-after freed transaction.phaseZero (two .0))
+      (gather refl (nothing-calm t .not-prepared) (quiet t tb ev [] (only-nothing notCommitted) (only-nothing notAborted)) unasked (λ m r k q w. absurd (nothing-calm t .not-enlisted m r k q)))))
       (λ _. own-start tb ev log t p (changed freed) (touched freed freed-mild) refl hs (view-before transaction.phaseZero (two .0)) (nothing-calm t) unasked (λ c. omega (arith, c, state-after freed transaction.phaseZero (two .0))))
     where
       ev : Event
       ev = event (act.ZeroDone n)
+
       two : (stateAt p tb ≡ transaction.phaseZero) × PhaseZero me
       two = of-zero (stateAt p tb) me (nm .line) st
+
       no-vote : Votes (me .kind) → ⊥
       no-vote m = by-either (λ q. omega (arith, q, two .1)) (λ q. omega (arith, q, two .1)) m
+
       unasked : (m : ℕ) → Some (Unasked m) hs → Some (Unasked m) (held p (changed freed))
       unasked m h = keep-others (Unasked m) freed (λ q. no-vote (q .1)) h
 
@@ -418,10 +442,10 @@ module _ (tb : Table) (log : List ℕ) (n : ℕ) (s : Sound tb) (full : length l
   unfolding react follow told
   lost-prepared st = unlogged tb lost log t p (changed (inState enlistment.preparedLost)) (touched (inState enlistment.preparedLost) (state-mild enlistment.preparedLost)) refl (changed (inState enlistment.preparedLost)) [] (addressed-nothing tb lost) refl (λ u d. refl)
       (λ h made l g. rw (view-before transaction.phaseOne three, view-after (inState enlistment.preparedLost) transaction.phaseOne three)
-        (vote-on refl (quiet t tb lost [] (only-nothing notCommitted) (only-nothing notAborted)) (nothing-calm t .not-enlisted)
-          (λ m w. inr (keep-others (Preparing m) (inState enlistment.preparedLost) (λ q. omega (arith, st, q .1)) w))
-          (λ r w. held-own (Hopes r) (Hopes r) p (onNumber n (inState enlistment.preparedLost)) tb (λ e m q. by-cases (λ (v : Enlistment). Hopes r v × (v .holder ≡ e .holder)) (isNumbered n e) (inState enlistment.preparedLost e) e (λ _. ((q .0, q .1, inr refl), refl)) (λ _. (q, refl))) w)
-          (λ r q. absurd (nothing-calm t .not-prepared r q))))
+      (vote-on refl (quiet t tb lost [] (only-nothing notCommitted) (only-nothing notAborted)) (nothing-calm t .not-enlisted)
+      (λ m w. inr (keep-others (Preparing m) (inState enlistment.preparedLost) (λ q. omega (arith, st, q .1)) w))
+      (λ r w. held-own (Hopes r) (Hopes r) p (onNumber n (inState enlistment.preparedLost)) tb (λ e m q. by-cases (λ (v : Enlistment). Hopes r v × (v .holder ≡ e .holder)) (isNumbered n e) (inState enlistment.preparedLost e) e (λ _. ((q .0, q .1, inr refl), refl)) (λ _. (q, refl))) w)
+      (λ r q. absurd (nothing-calm t .not-prepared r q))))
     where
       three : stateAt p tb ≡ transaction.phaseOne
       three = of-voting (stateAt p tb) me (nm .line) (inr st)
@@ -438,9 +462,9 @@ module _ (tb : Table) (log : List ℕ) (n : ℕ) (s : Sound tb) (full : length l
   unfolding react follow told
   lost-told st = unlogged tb lost log t p (changed (inState enlistment.failedToNotify)) (touched (inState enlistment.failedToNotify) (state-mild enlistment.failedToNotify)) refl (changed (inState enlistment.failedToNotify)) [] (addressed-nothing tb lost) refl (λ u d. refl)
       (λ h made l g. rw (view-before transaction.committing five, view-after (inState enlistment.failedToNotify) transaction.committing five)
-        (told-on refl (nothing-calm t) (none-aborted t tb lost [] (only-nothing notAborted))
-          (λ r w. inl (held-own (Waits r) (Waits r) p (onNumber n (inState enlistment.failedToNotify)) tb (λ e m q. by-cases (λ (v : Enlistment). Waits r v × (v .holder ≡ e .holder)) (isNumbered n e) (inState enlistment.failedToNotify e) e (λ _. ((q .0, q .1, inr refl), refl)) (λ _. (q, refl))) w))
-          (durable-stays enlistment.failedToNotify) (none-stays enlistment.failedToNotify)))
+      (told-on refl (nothing-calm t) (none-aborted t tb lost [] (only-nothing notAborted))
+      (λ r w. inl (held-own (Waits r) (Waits r) p (onNumber n (inState enlistment.failedToNotify)) tb (λ e m q. by-cases (λ (v : Enlistment). Waits r v × (v .holder ≡ e .holder)) (isNumbered n e) (inState enlistment.failedToNotify e) e (λ _. ((q .0, q .1, inr refl), refl)) (λ _. (q, refl))) w))
+      (durable-stays enlistment.failedToNotify) (none-stays enlistment.failedToNotify)))
     where
       five : stateAt p tb ≡ transaction.committing
       five = of-commit (stateAt p tb) me (nm .line) (inl st)
@@ -474,17 +498,19 @@ module _ (tb : Table) (log : List ℕ) (n : ℕ) (s : Sound tb) (full : length l
   reacts-lost = by-cases R (eqb k enlistment.active || eqb k enlistment.zero || eqb k enlistment.preparing) _ _
       (λ q. record { gives = λ _. lost-abort (soon q) })
       (λ _. by-cases R (eqb k enlistment.prepared) _ _
-        (λ q. by-cases R (durableKind (me .kind)) _ _ (λ _. record { gives = λ _. lost-prepared (eqb-true k enlistment.prepared q) }) (λ _. record { gives = λ _. lost-abort (voting-doomed (inr (eqb-true k enlistment.prepared q))) }))
-        (λ _. by-cases R (eqb k enlistment.onePhase) _ _
-          (λ q. record { gives = λ _. lost-single (eqb-true k enlistment.onePhase q) })
-          (λ _. by-cases R (eqb k enlistment.toldCommit) _ _
-            (λ q. by-cases R (durableKind (me .kind)) _ _ (λ _. record { gives = λ _. lost-told (eqb-true k enlistment.toldCommit q) }) (λ d. record { gives = λ _. lost-committing (eqb-true k enlistment.toldCommit q) d }))
-            (λ _. by-cases R (eqb k enlistment.toldAbort) _ _ (λ q. record { gives = λ _. lost-aborting (eqb-true k enlistment.toldAbort q) }) (λ _. refuses (act.Lost n))))))
+      (λ q. by-cases R (durableKind (me .kind)) _ _ (λ _. record { gives = λ _. lost-prepared (eqb-true k enlistment.prepared q) }) (λ _. record { gives = λ _. lost-abort (voting-doomed (inr (eqb-true k enlistment.prepared q))) }))
+      (λ _. by-cases R (eqb k enlistment.onePhase) _ _
+      (λ q. record { gives = λ _. lost-single (eqb-true k enlistment.onePhase q) })
+      (λ _. by-cases R (eqb k enlistment.toldCommit) _ _
+      (λ q. by-cases R (durableKind (me .kind)) _ _ (λ _. record { gives = λ _. lost-told (eqb-true k enlistment.toldCommit q) }) (λ d. record { gives = λ _. lost-committing (eqb-true k enlistment.toldCommit q) d }))
+      (λ _. by-cases R (eqb k enlistment.toldAbort) _ _ (λ q. record { gives = λ _. lost-aborting (eqb-true k enlistment.toldAbort q) }) (λ _. refuses (act.Lost n))))))
     where
       k : ℕ
       k = me .state
+
       R : Reaction → Type 0
       R = Reacts (act.Lost n)
+
       soon : (eqb k enlistment.active || eqb k enlistment.zero || eqb k enlistment.preparing) ≡ true → Doomed t (viewOf t tb)
       soon q = by-either (λ w. by-either (λ v. early-doomed (inl (eqb-true k enlistment.active v))) (λ v. early-doomed (inr (eqb-true k enlistment.zero v))) (true-or (eqb k enlistment.active) (eqb k enlistment.zero) w)) (λ w. voting-doomed (inl (eqb-true k enlistment.preparing w))) (true-or (eqb k enlistment.active || eqb k enlistment.zero) (eqb k enlistment.preparing) q)
 

@@ -1,17 +1,17 @@
 -- A finished re-enlistment, which may end several transactions: what it is to each of them.
-use Prim.Native.Nat.{ℕ, suc, _+_, _*_, _≤_}
+use Prim.Native.Nat.{ℕ, suc}
 use native.Mathlib.Omega.{arith}
 use mathlib.Core.Path.{_≡_, refl, sym, _∙_, ap}
 use mathlib.Core.Logic.{_⊎_, inl, inr}
-use mathlib.Core.Bool.{Bool, true, false, cond, not, _&&_, true≢false}
-use mathlib.Core.List.{List, [], _∷_, _++_, map, List·Memᴰ·head, List·Memᴰ·tail, List·Memᴰ·not-nil, Memᴰ·cast}
-use lib.ListN.{length, take}
+use mathlib.Core.Bool.{Bool, true, false, _&&_}
+use mathlib.Core.List.{List, [], _∷_, map, List·Memᴰ·not-nil}
+use lib.ListN.{length}
 use lib.Dec.{eqb}
-use borrow.Author.Tests.{eqb-true, eqb-false, eq-eqb, ne-eqb}
+use borrow.Author.Tests.{eqb-true, eqb-false, eq-eqb}
 use Rattle.lists.specs.Members.{_∈_, Each, Some}
 use Rattle.lists.specs.Lists.{all, any, filter}
 use Rattle.lists.specs.Places.{placesFrom, placesWhere}
-use Rattle.lists.proofs.Tests.{by-test, by-either, no-clash, is-false, and-true, true-and, true-not, in-map, of-map, each-head, each-rest, all-each, any-some, some-any}
+use Rattle.lists.proofs.Tests.{by-test, by-either, no-clash, is-false, true-and, in-map, of-map, each-head, each-rest, all-each, some-any}
 use Rattle.lists.proofs.Places.{in-places, of-places}
 use Rattle.lists.proofs.Sorting.{in-sort, of-sort}
 use Rattle.rules.specs.declared.Transaction.{Transaction}
@@ -22,15 +22,15 @@ use Rattle.rules.specs.Kinds as kind
 use Rattle.rules.specs.TransactionState as transaction
 use Rattle.rules.specs.EnlistmentState as enlistment
 use Rattle.rules.specs.Identifiers.{Id, sameBytes}
-use Rattle.rules.specs.Table.{noTransaction, isNamed, placeNamed, transactionAt, stateAt, idAt, heldBy, held, isDurable, isDurableOf, isIn, isDone, inState, withEnlistments}
+use Rattle.rules.specs.Table.{noTransaction, isNamed, placeNamed, transactionAt, stateAt, heldBy, held, isDurable, isDurableOf, isIn, isDone, inState, withEnlistments}
 use Rattle.rules.specs.Sound.{Sound, HoldsWell, In, Durable, isOpen, openPlaces, openCount, active, phase-zero, phase-one, single-phase, committing, aborting}
 use Rattle.rules.specs.Events.{doneFor, byIdentifier, finished, endEach, reenlistedOf}
 use Rattle.rules.proofs.Identifiers.{same-equal}
-use Rattle.rules.proofs.Frames.{of-held, named-is, named-found, none-absent, named-place, Stands, Absent}
+use Rattle.rules.proofs.Frames.{named-found, none-absent, named-place, Stands, Absent}
 use Rattle.safety.specs.World.{Note}
-use Rattle.safety.specs.Host.{Closes, Prepares}
+use Rattle.safety.specs.Host.{Closes}
 use Rattle.safety.proofs.Alone as alone
-use Rattle.safety.proofs.Alone.{Story, closed, View, out, Waits, NoDurable}
+use Rattle.safety.proofs.Alone.{Story, closed, View, out, Waits}
 use Rattle.safety.proofs.Move.{Quiet, Calm, Move, stay, told-on, end-logged}
 use Rattle.safety.proofs.Top.{Agrees}
 use Rattle.safety.proofs.Story.{story, onForget}
@@ -82,6 +82,7 @@ reenlisted-calm t r = record { not-enlisted = λ n q k w. no₁ n q k w; not-pre
   where
     no₁ : (m : ℕ) (q : Id) (k : ℕ) → Note.reenlisted r ≡ Note.enlisted t m q k → ⊥
     no₁ m q k w = let z : _≡_ {A = ℕ} 0 1 = cc in omega arith
+
     no₂ : (q : Id) (m : ℕ) → Note.reenlisted r ≡ Note.voted t m q kind.durable vote.Prepared → ⊥
     no₂ q m w = let z : _≡_ {A = ℕ} 0 1 = cc in omega arith
 
@@ -188,9 +189,9 @@ module _ (r : Id) (tb : Table) (log : List ℕ) (s : Sound tb) (full : length lo
           where
             go : Some (λ e. In enlistment.done e → ⊥) hs → Some Durable hs
             go w = by-either
-              (λ d. absurd (w .holds (eqb-true (w .it .state) enlistment.done d)))
-              (λ d. record { it = w .it; there = w .there; holds = eqb-true (w .it .kind) kind.durable (true-and (isDurable (w .it)) (sameBytes (w .it .rm .0) r) (true-and (isDurableOf r (w .it)) (isIn enlistment.failedToNotify (w .it)) d .0) .0) })
-              (done-now r (w .it) (all-done (w .it) (w .there)))
+                (λ d. absurd (w .holds (eqb-true (w .it .state) enlistment.done d)))
+                (λ d. record { it = w .it; there = w .there; holds = eqb-true (w .it .kind) kind.durable (true-and (isDurable (w .it)) (sameBytes (w .it .rm .0) r) (true-and (isDurableOf r (w .it)) (isIn enlistment.failedToNotify (w .it)) d .0) .0) })
+                (done-now r (w .it) (all-done (w .it) (w .there)))
 
         is-open : isOpen (stateAt p after) (held p after) ≡ true
         unfolding after
@@ -211,6 +212,7 @@ module _ (r : Id) (tb : Table) (log : List ℕ) (s : Sound tb) (full : length lo
           where
             now : viewOf t tb ≡ alone.committing hs
             now = view-now ∙ ap (λ n. look n hs) five
+
             w : Seen t ps after log out onForget
             w = each-own t p ps after log at-after (is-finished b) is-open
 
@@ -223,9 +225,9 @@ module _ (r : Id) (tb : Table) (log : List ℕ) (s : Sound tb) (full : length lo
         goes-on : stateAt p tb ≡ transaction.committing → M (viewOf t tb) Result
         goes-on five = rw (view-now ∙ ap (λ n. look n hs) five, seen .view ∙ ap (λ n. look n (map (doneFor r) hs)) five)
             (told-on (seen .tale l) calm (silent .no-aborted)
-              (λ q w. by-either (λ v. inl (record { it = doneFor r (w .it); there = in-map (doneFor r) (w .there); holds = v })) (λ e. inr (inr (ap Note.reenlisted (sym e)))) (done-waits r q (w .it) (w .holds)))
-              (λ w. record { it = doneFor r (w .it); there = in-map (doneFor r) (w .there); holds = done-kept r (w .it) .1 ∙ w .holds })
-              (λ nd e m d. let c : Some (λ w. doneFor r w ≡ e) hs = of-map (doneFor r) hs m in nd (c .it) (c .there) (sym (done-kept r (c .it) .1) ∙ ap (λ (w : Enlistment). w .kind) (c .holds) ∙ d)))
+            (λ q w. by-either (λ v. inl (record { it = doneFor r (w .it); there = in-map (doneFor r) (w .there); holds = v })) (λ e. inr (inr (ap Note.reenlisted (sym e)))) (done-waits r q (w .it) (w .holds)))
+            (λ w. record { it = doneFor r (w .it); there = in-map (doneFor r) (w .there); holds = done-kept r (w .it) .1 ∙ w .holds })
+            (λ nd e m d. let c : Some (λ w. doneFor r w ≡ e) hs = of-map (doneFor r) hs m in nd (c .it) (c .there) (sym (done-kept r (c .it) .1) ∙ ap (λ (w : Enlistment). w .kind) (c .holds) ∙ d)))
 
         -- before the decision, and after an abort, none is in Failed-to-notify
         unmoved : (stateAt p tb ≡ transaction.committing → ⊥) → map (doneFor r) hs ≡ hs

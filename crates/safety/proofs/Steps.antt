@@ -1,16 +1,16 @@
 -- Every accepted step is a move of every transaction: its own move of the one that the event is about, and none of the others.
-use Prim.Native.Nat.{ℕ, _≤_}
+use Prim.Native.Nat.{ℕ}
 use native.Mathlib.Omega.{arith}
 use mathlib.Core.Path.{_≡_, refl, sym, _∙_, ap, subst}
 use mathlib.Core.Logic.{_⊎_, inl, inr}
-use mathlib.Core.Bool.{Bool, true, false, not, _||_}
-use mathlib.Core.List.{List, [], _∷_, _++_, map}
+use mathlib.Core.Bool.{true, false, not, _||_}
+use mathlib.Core.List.{List, _++_, map}
 use lib.ListN.{length, take}
 use lib.Dec.{eqb, leb}
 use borrow.Author.Tests.{eqb-true, eqb-false}
 use Rattle.lists.specs.Lists.{any, none}
 use Rattle.lists.specs.Members.{Each}
-use Rattle.lists.proofs.Tests.{by-test, by-either, no-clash, is-false, true-or, false-or, not-true, not-false}
+use Rattle.lists.proofs.Tests.{by-test, by-either, no-clash, is-false, true-or, false-or, not-false}
 use Rattle.rules.specs.declared.Table.{Table}
 use Rattle.rules.specs.declared.TxId.{TxId}
 use Rattle.rules.specs.declared.RmId.{RmId}
@@ -24,9 +24,9 @@ use Rattle.rules.specs.Identifiers.{Id, sameBytes}
 use Rattle.rules.specs.Table.{isFree, isVacant, placeNamed, stateAt, held, numbered}
 use Rattle.rules.specs.Sound.{Sound, soundOf}
 use Rattle.rules.specs.Log.{Record, allBytes}
-use Rattle.rules.specs.Events.{Outcome, acted, acceptedOf, reactedOf, reactionOf, react, endEach, reenlistedOf}
+use Rattle.rules.specs.Events.{Outcome, acted, reactedOf, reactionOf, endEach, reenlistedOf}
 use Rattle.rules.specs.Refusals.{isNumberHeld, isRefused, refusalOf, isOneOf, namesZero, isNotLive, isNotHeld, isAlreadyLive, isStateWrong, isReactionRefused, isFull}
-use Rattle.rules.specs.Step.{Step, doneStep, stepOf}
+use Rattle.rules.specs.Step.{doneStep, stepOf}
 use Rattle.rules.proofs.Identifiers.{same-refl, same-equal}
 use Rattle.rules.proofs.Soundness.{sound-sentences}
 use Rattle.rules.proofs.Records.{Valid}
@@ -64,7 +64,8 @@ calm-other : (u : Id) (x : Note) (d : Id) → (u ≡ noted x d → ⊥) → Calm
 unfolding noted
 calm-other u x d f = record {
   not-enlisted = λ n r k q. f (sym (ap (λ y. noted y d) q));
-  not-prepared = λ r q. f (sym (ap (λ y. noted y d) (q .1))) }
+  not-prepared = λ r q. f (sym (ap (λ y. noted y d) (q .1)));
+}
 
 noted-subject : (a : Act) (t r : Id) (tb : Table) → noted (told a t r tb) (subject a t tb) ≡ subject a t tb
 unfolding noted told
@@ -88,17 +89,22 @@ Moved tb e log o = Accepted viewOf storyOf Formed tb e log (doneStep o)
 own-all : (tb : Table) (e : Event) (log : List ℕ) (o : Outcome) → Formed (usedPart tb log) → Own tb e log (subjectOf tb e) o → Moved tb e log o
 own-all tb e log o f w = record {
   formed = rw (w .bytes) (formed-append (usedPart tb log) f (w .records) (w .valid));
-  added = allBytes (w .records); appended = w .bytes;
+  added = allBytes (w .records);
+  appended = w .bytes;
   moves = λ h made t a. rw (w .bytes, story-more t (usedPart tb log) f (w .records) (w .valid)) (by-test (sameBytes t (subjectOf tb e))
-    (λ b. own h made t (same-equal t (subjectOf tb e) b) a)
-    (λ b. other h t (λ q. no-clash (sameBytes t (subjectOf tb e)) (rw q (same-refl (subjectOf tb e))) b))) }
+      (λ b. own h made t (same-equal t (subjectOf tb e) b) a)
+      (λ b. other h t (λ q. no-clash (sameBytes t (subjectOf tb e)) (rw q (same-refl (subjectOf tb e))) b)));
+}
   where
     l : Id → Story
     l t = storyOf t (usedPart tb log)
+
     M : List Note → Id → Type 0
     M h t = Move t h (noteOf tb e) (map (messageOf tb e) (o .signals)) (l t) (story t (l t) (w .records)) (viewOf t tb) (viewOf t (o .table))
+
     own : (h : List Note) → Makes careful h e → (t : Id) → t ≡ subjectOf tb e → Agrees (viewOf t tb) (l t) → M h t
     own h made t q a = subst (λ t. Agrees (viewOf t tb) (l t) → M h t) (sym q) (λ a. w .move h made (l (subjectOf tb e)) a) a
+
     other : (h : List Note) (t : Id) → (t ≡ subjectOf tb e → ⊥) → M h t
     other h t n = rw (w .other-story t n (l t), w .other-view t n) (stay refl (calm-other t (noteOf tb e) (subjectOf tb e) (λ q. n (q ∙ noted-subject (e .act) (e .tx .0) (e .rm .0) tb))) (quiet-other t tb e (o .signals) n (w .addressed)))
 
@@ -108,17 +114,23 @@ reenlisted-all : (tb : Table) (x : TxId) (y : RmId) (log : List ℕ) → Sound t
 unfolding after told
 reenlisted-all tb x y log s full f = rw (reenlisted-is (y .0) tb log s full) (record {
   formed = rw bytes (formed-append (usedPart tb log) f rs valid);
-  added = allBytes rs; appended = bytes;
-  moves = λ h made t a. rw (bytes, story-more t (usedPart tb log) f rs valid, each-silent places table log) (reenlisted-move (y .0) tb log s full t h (storyOf t (usedPart tb log)) a) })
+  added = allBytes rs;
+  appended = bytes;
+  moves = λ h made t a. rw (bytes, story-more t (usedPart tb log) f rs valid, each-silent places table log) (reenlisted-move (y .0) tb log s full t h (storyOf t (usedPart tb log)) a);
+})
   where
     table : Table
     table = after (y .0) tb log s full
+
     places : List ℕ
     places = ps (y .0) tb log s full
+
     rs : List Record
     rs = forgets places table log
+
     valid : Each Valid rs
     valid = each-valid places table log (roomy-after (y .0) tb log s full)
+
     bytes : take (endEach places table log .table .used) (endEach places table log .log) ≡ take (tb .used) log ++ allBytes rs
     bytes = each-bytes places table log (roomy-after (y .0) tb log s full)
 

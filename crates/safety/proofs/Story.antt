@@ -4,13 +4,13 @@ use Prim.Native.Nat.{ℕ, _≤_, _<_}
 use native.Mathlib.Omega.{arith}
 use native.Mathlib.Decide.{decLe}
 use mathlib.Core.Path.{_≡_, refl, sym, _∙_, ap}
-use mathlib.Core.Bool.{Bool, true, false, cond, not, _&&_}
+use mathlib.Core.Bool.{true, false, cond, not, _&&_}
 use mathlib.Core.List.{List, [], _∷_, _++_, map, append-assoc, append-nil, List·Memᴰ·append-cases, Memᴰ·append-left}
-use lib.ListN.{length, take, drop, drop-of-length-le}
+use lib.ListN.{length, drop, drop-of-length-le}
 use lib.Seq.{drop-append-le}
 use Rattle.lists.specs.Lists.{filter}
 use Rattle.lists.specs.Members.{Each}
-use Rattle.lists.proofs.Tests.{by-test, by-either, no-clash, each-nothing, each-head, each-rest, false-not, filter-append, filter-filter, filter-same, filter-none}
+use Rattle.lists.proofs.Tests.{by-test, by-either, no-clash, each-nothing, each-head, each-rest, filter-append, filter-filter, filter-same, filter-none}
 use Rattle.rules.specs.Identifiers.{Id, sameBytes}
 use Rattle.rules.specs.Sizes.{headerSize}
 use Rattle.rules.specs.Log.{Entry, Record, header, recordBytes, allBytes, scan}
@@ -80,6 +80,7 @@ story-prefix t a b = go (decLe headerSize (length a))
   where
     more : (m : Begins (scan 0 (drop headerSize a)) (scan 0 (drop headerSize a ++ b))) → Below (story t none (scan 0 (drop headerSize a))) (story t none (scan 0 (drop headerSize a ++ b)))
     more m = rw (m .split, story-append t none (scan 0 (drop headerSize a)) (m .more)) (story-up t (story t none (scan 0 (drop headerSize a))) (m .more))
+
     go : Dec (headerSize ≤ length a) → Below (story t none (scan 0 (drop headerSize a))) (story t none (scan 0 (drop headerSize (a ++ b))))
     go (yes p) = rw (drop-append-le headerSize a b p) (more (scan-longer 0 (drop headerSize a) b))
     go (no p) = rw (drop-of-length-le a {i = headerSize} (omega (arith, p))) tt
@@ -112,8 +113,10 @@ bytes-append (x ∷ a) b = ap (λ l. recordBytes x ++ l) (bytes-append a b) ∙ 
 
 pub formed-append : (bs : List ℕ) (f : Formed bs) (rs : List Record) → Each Valid rs → Formed (bs ++ allBytes rs)
 formed-append bs f rs v = record {
-  records = f .records ++ rs; valid = valid-both (f .records) rs (f .valid) v;
-  bytes = ap (λ l. l ++ allBytes rs) (f .bytes) ∙ append-assoc header (allBytes (f .records)) (allBytes rs) ∙ ap (λ l. header ++ l) (sym (bytes-append (f .records) rs)) }
+  records = f .records ++ rs;
+  valid = valid-both (f .records) rs (f .valid) v;
+  bytes = ap (λ l. l ++ allBytes rs) (f .bytes) ∙ append-assoc header (allBytes (f .records)) (allBytes rs) ∙ ap (λ l. header ++ l) (sym (bytes-append (f .records) rs));
+}
 
 pub story-more : (t : Id) (bs : List ℕ) (f : Formed bs) (rs : List Record) → Each Valid rs → storyOf t (bs ++ allBytes rs) ≡ story t (storyOf t bs) rs
 unfolding formed-append
@@ -152,8 +155,8 @@ module _ (t : Id) where
     where
       keep : (o : Open) → (not (isOpenAs u o) && isOpenAs t o) ≡ isOpenAs t o
       keep o = by-test (isOpenAs u o)
-        (λ p. by-test (isOpenAs t o) (λ q. no-clash (sameBytes u t) (rw (sym (same-equal (o .id) u p) ∙ same-equal (o .id) t q) (same-refl t)) d) (λ q. rw (p, q) refl))
-        (λ p. rw p refl)
+          (λ p. by-test (isOpenAs t o) (λ q. no-clash (sameBytes u t) (rw (sym (same-equal (o .id) u p) ∙ same-equal (o .id) t q) (same-refl t)) d) (λ q. rw (p, q) refl))
+          (λ p. rw p refl)
 
   forget-own : (os : List Open) (u : Id) → sameBytes u t ≡ true → mine (filter (λ o. not (isOpenAs u o)) os) ≡ []
   unfolding mine
@@ -180,11 +183,11 @@ module _ (t : Id) where
   tells-next : (r : Record) → Valid r → (s : Story) (os : List Open) → Tells s os → Tells (next t s r) (afterRecord os r)
   unfolding next afterRecord
   tells-next (Record.commit u es) v s os h = by-test (sameBytes u t)
-    (λ d. rw d (tells-commit s os u es (some-entry v) d h))
-    (λ d. rw d (tells-same s os (os ++ (record { id = u; entries = es } ∷ [])) (commit-other os u es d) h))
+      (λ d. rw d (tells-commit s os u es (some-entry v) d h))
+      (λ d. rw d (tells-same s os (os ++ (record { id = u; entries = es } ∷ [])) (commit-other os u es d) h))
   tells-next (Record.forget u) v s os h = by-test (sameBytes u t)
-    (λ d. rw d (tells-forget s os u d))
-    (λ d. rw d (tells-same s os (filter (λ o. not (isOpenAs u o)) os) (forget-other os u d) h))
+      (λ d. rw d (tells-forget s os u d))
+      (λ d. rw d (tells-same s os (filter (λ o. not (isOpenAs u o)) os) (forget-other os u d) h))
 
   -- what the records tell of t, restart finds
   pub tells : (rs : List Record) → Each Valid rs → (s : Story) (os : List Open) → Tells s os → Tells (story t s rs) (openAfter os rs)

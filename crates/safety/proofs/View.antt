@@ -3,7 +3,7 @@ use Prim.Native.Nat.{ℕ, zero, suc}
 use native.Mathlib.Omega.{arith}
 use mathlib.Core.Path.{_≡_, refl, sym, _∙_, ap}
 use mathlib.Core.Logic.{inr}
-use mathlib.Core.Bool.{true, false}
+use mathlib.Core.Bool.{false}
 use mathlib.Core.List.{List}
 use lib.Dec.{eqb}
 use borrow.Author.Tests.{eqb-true, eqb-false}
@@ -14,7 +14,7 @@ use Rattle.rules.specs.declared.Enlistment.{Enlistment}
 use Rattle.rules.specs.declared.Table.{Table}
 use Rattle.rules.specs.Identifiers.{Id}
 use Rattle.rules.specs.Table.{noTransaction, isNamed, placeNamed, transactionAt, stateAt, held, inTransactionState, freed, ended, changeHeld, changeTransaction, goTo, emptied, useMore}
-use Rattle.rules.proofs.Frames.{Keeps, held-other, held-transaction, Stands, Absent, stands-place, absent-place, named-found, named-other, same-place, at-other, place-kept, state-goes, stands-goes, other-goes, absent-ended}
+use Rattle.rules.proofs.Frames.{Keeps, held-other, held-transaction, Stands, Absent, stands-place, absent-place, named-found, named-other, at-other, place-kept, state-goes, stands-goes, other-goes, absent-ended}
 use Rattle.safety.proofs.Alone.{View, out, early, voting, single, committing, aborting}
 
 abbrev pub look : ℕ → List Enlistment → View
