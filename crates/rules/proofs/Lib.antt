@@ -1,4 +1,5 @@
 pub mod Computing
+pub mod Frames
 pub mod Bytes
 pub mod Identifiers
 pub mod Soundness
