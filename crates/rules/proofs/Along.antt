@@ -2,17 +2,16 @@
 use Prim.Native.Nat.{ℕ, suc, _+_, _≤_, _<_}
 use native.Mathlib.Omega.{arith}
 use mathlib.Core.Path.{_≡_, refl, sym, _∙_, ap, subst}
-use mathlib.Core.Logic.{_⊎_, inl, inr}
 use mathlib.Core.Bool.{Bool, true, false, cond}
-use mathlib.Core.List.{List, [], _∷_, map, List·Memᴰ·head, List·Memᴰ·tail, List·Memᴰ·cases-cons, List·Memᴰ·not-nil}
+use mathlib.Core.List.{List, [], _∷_, map, List·Memᴰ·cases-cons, List·Memᴰ·not-nil}
 use lib.ListN.{length}
 use lib.Dec.{eqb}
 use borrow.Author.Tests.{eqb-true, eqb-false, eq-eqb, ne-eqb}
 use Rattle.lists.specs.Lists.{filter}
 use Rattle.lists.specs.Members.{_∈_, Each, Some, Apart, nothing, more}
 use Rattle.lists.specs.Places.{atFrom, at, changeFrom, changeAt, putLowest, placesFrom, placesWhere}
-use Rattle.lists.proofs.Tests.{by-test, by-either, no-clash, each-more, each-head, each-rest, some-here, some-later, in-filter, of-filter}
-use Rattle.lists.proofs.Places.{of-put, at-below, change-below}
+use Rattle.lists.proofs.Tests.{by-test, by-either, each-head, each-rest, some-here, some-later, in-filter, of-filter}
+use Rattle.lists.proofs.Places.{of-put, change-below}
 
 pub data Along {A : Type 0} (S : A → A → Type 0) : List A → List A → Type 0 where
   along-end : Along S [] []

@@ -1,3 +1,4 @@
 pub mod Computing
 pub mod Bytes
 pub mod Along
+pub mod Kept
