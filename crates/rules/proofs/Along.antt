@@ -91,18 +91,19 @@ module _ {A : Type 0} {S : A → A → Type 0} (t : A → Bool) (passed : (x y :
 -- ── a new one in the lowest empty place ─────────────────────────────────────────────────────────────────────────
 
 module _ {A : Type 0} (empty : A → Bool) (x : A) (t : A → Bool) (apart : (y : A) → empty y ≡ true → t y ≡ false) where
-  pub put-apart : {R : A → A → Type 0} (xs : List A) → Each (λ y. (R x y → ⊥) × (R y x → ⊥)) (filter t xs) → Apart R (filter t xs) → Apart R (filter t (putLowest empty x xs))
+  pub put-apart : {R : A → A → Type 0} (xs : List A) → Each (λ y. t x ≡ true → (R x y → ⊥) × (R y x → ⊥)) (filter t xs) → Apart R (filter t xs)
+      → Apart R (filter t (putLowest empty x xs))
   unfolding filter putLowest
   put-apart [] h a = a
   put-apart {R} (y ∷ ys) h a = by-test (empty y)
       (λ e. by-test (t x)
-      (λ c. rw (e, c) (more (λ z m. (rw (apart y e) at h) z m .0) (rw (apart y e) at a)))
+      (λ c. rw (e, c) (more (λ z m. (rw (apart y e) at h) z m c .0) (rw (apart y e) at a)))
       (λ c. rw (e, c) (rw (apart y e) at a)))
       (λ e. by-test (t y)
       (λ c. let b : Apart R (y ∷ filter t ys) = rw c at a in
-      let g : Each (λ z. (R x z → ⊥) × (R z x → ⊥)) (y ∷ filter t ys) = rw c at h in
+      let g : Each (λ z. t x ≡ true → (R x z → ⊥) × (R z x → ⊥)) (y ∷ filter t ys) = rw c at h in
       rw (e, c) (more (λ z m q. by-either
-      (λ i. each-head g .1 (subst (R y) i q))
+      (λ i. each-head g (subst (λ w. t w ≡ true) i (of-filter t (putLowest empty x ys) m .1)) .1 (subst (R y) i q))
       (λ i. apart-head b z (in-filter t ys i (of-filter t (putLowest empty x ys) m .1)) q)
       (of-put empty x ys (of-filter t (putLowest empty x ys) m .0))) (put-apart ys (each-rest g) (apart-rest b))))
       (λ c. rw (e, c) (put-apart ys (rw c at h) (rw c at a))))

@@ -2,3 +2,4 @@ pub mod Computing
 pub mod Bytes
 pub mod Along
 pub mod Kept
+pub mod Put
