@@ -3,3 +3,4 @@ pub mod Bytes
 pub mod Along
 pub mod Kept
 pub mod Put
+pub mod Only
