@@ -7,7 +7,7 @@ use mathlib.Core.Bool.{Bool, true, false, cond, false≢true}
 use mathlib.Core.List.{List, [], _∷_, List·Memᴰ·head, List·Memᴰ·tail, List·Memᴰ·cases-cons, List·Memᴰ·not-nil}
 use lib.ListN.{length, getD, set}
 use lib.Dec.{eqb, leb, ltb}
-use borrow.Author.Tests.{eqb-true, eqb-false, eq-eqb, ne-eqb, lt-leb, leb-false, ltb-true, ltb-false}
+use borrow.Author.Tests.{eqb-true, eqb-false, eq-eqb, ne-eqb, lt-leb, leb-true, leb-false, ltb-true, ltb-false}
 use Rattle.lists.specs.Lists.{any, filter, count}
 use Rattle.lists.specs.Members.{_∈_, Each, Apart, nothing, more}
 use Rattle.lists.specs.Places.{placeFrom, placeOf, atFrom, at, changeFrom, changeAt, putLowest, eachFrom, eachPlace, placesFrom, placesWhere}
@@ -32,6 +32,19 @@ module _ {A : Type 0} (d : A) where
   unfolding atFrom
   at-below k p [] h = refl
   at-below k p (x ∷ xs) h = rw (ne-eqb k p (omega arith)) (at-below (suc k) p xs (omega arith))
+
+  at-beyond : (k p : ℕ) (xs : List A) → k + length xs ≤ p → atFrom d k p xs ≡ d
+  unfolding atFrom
+  at-beyond k p [] h = refl
+  at-beyond k p (x ∷ xs) h = rw (ne-eqb k p (omega arith)) (at-beyond (suc k) p xs (omega arith))
+
+  -- there is such a place, or nothing stands there
+  pub place-or-nothing : (p : ℕ) (xs : List A) → IsPlace xs p ⊎ (at d p xs ≡ d)
+  place-or-nothing p xs = by-test (ltb 0 p)
+      (λ e. by-test (leb p (length xs))
+      (λ g. inl (record { low = ltb-true 0 p e; high = leb-true p (length xs) g }))
+      (λ g. let h : length xs < p = leb-false p (length xs) g in inr (at-beyond 1 p xs (omega arith))))
+      (λ e. let h : p ≤ 0 = ltb-false 0 p e in inr (at-below 1 p xs (omega arith)))
 
   pub at-suc : (i : ℕ) (xs : List A) → at d (suc i) xs ≡ getD xs i d
   at-suc i xs = at-from 1 (suc i) i xs (omega arith)

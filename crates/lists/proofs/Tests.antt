@@ -3,7 +3,7 @@ use Prim.Native.Nat.{ℕ, zero, suc, _≤_}
 use native.Mathlib.Omega.{arith}
 use mathlib.Core.Path.{_≡_, refl, sym, _∙_, ap, subst}
 use mathlib.Core.Logic.{_⊎_, inl, inr}
-use mathlib.Core.Bool.{Bool, true, false, not, _&&_, _||_, true≢false, false≢true}
+use mathlib.Core.Bool.{Bool, true, false, cond, not, _&&_, _||_, true≢false, false≢true}
 use mathlib.Core.List.{List, [], _∷_, _++_, map, List·Memᴰ·head, List·Memᴰ·tail, List·Memᴰ·cases-cons, List·Memᴰ·not-nil, Memᴰ·map, Memᴰ·of-map}
 use lib.ListN.{length, getD}
 use Rattle.lists.specs.Lists.{all, any, none, filter, count, firstOr, differ, every}
@@ -15,6 +15,11 @@ use Rattle.lists.specs.Members.{_∈_, Each, Some, Apart, nothing, more}
 pub by-test : {C : Type 0} (b : Bool) → (b ≡ true → C) → (b ≡ false → C) → C
 by-test true f g = f refl
 by-test false f g = g refl
+
+-- what holds of both, holds of the one that is chosen
+pub by-cond : {A : Type 0} (P : A → Type 0) (b : Bool) {x y : A} → P x → P y → P (cond b x y)
+by-cond P true p q = p
+by-cond P false p q = q
 
 pub by-either : {A B C : Type 0} → (A → C) → (B → C) → A ⊎ B → C
 by-either f g (inl a) = f a
@@ -246,20 +251,21 @@ module _ {A : Type 0} (alike : A → A → Bool) {R : A → A → Type 0} where
 
 -- ── every ───────────────────────────────────────────────────────────────────────────────────────────────────────
 
--- each of these holds, as a tuple to be taken apart or given
-abbrev pub Holding : List Bool → Type 0
-Holding [] = Unit {0}
-Holding (b ∷ bs) = (b ≡ true) × Holding bs
+-- each of these holds: `p also q also that-is-all`, to be given or to be taken apart
+infixr 20 _also_
+pub data Holding : List Bool → Type 0 where
+  that-is-all : Holding []
+  _also_ : {b : Bool} {bs : List Bool} → b ≡ true → Holding bs → Holding (b ∷ bs)
 
 pub every-holding : (bs : List Bool) → every bs ≡ true → Holding bs
 unfolding every
-every-holding [] e = tt
-every-holding (b ∷ bs) e = (true-and b (every bs) e .0, every-holding bs (true-and b (every bs) e .1))
+every-holding [] e = that-is-all
+every-holding (b ∷ bs) e = true-and b (every bs) e .0 also every-holding bs (true-and b (every bs) e .1)
 
-pub holding-every : (bs : List Bool) → Holding bs → every bs ≡ true
+pub holding-every : {bs : List Bool} → Holding bs → every bs ≡ true
 unfolding every
-holding-every [] h = refl
-holding-every (b ∷ bs) h = and-true (h .0) (holding-every bs (h .1))
+holding-every that-is-all = refl
+holding-every (p also h) = and-true p (holding-every h)
 
 -- the one at index n
 pub every-at : (bs : List Bool) (n : ℕ) → every bs ≡ true → getD bs n true ≡ true

@@ -1,5 +1,9 @@
 pub mod Computing
 pub mod Bytes
+pub mod Identifiers
+pub mod Soundness
+pub mod Refused
+pub mod Checks
 pub mod Along
 pub mod Kept
 pub mod Put
