@@ -13,7 +13,7 @@ use Rattle.lists.specs.Lists.{filter}
 use Rattle.lists.specs.Members.{Each, Apart}
 use Rattle.lists.specs.Places.{atFrom, at, changeAt}
 use Rattle.lists.proofs.Tests.{by-test, by-either, no-clash, true-and, and-true, false-not, not-true, filter-filter}
-use Rattle.lists.proofs.Places.{IsPlace, at-below, length-change, at-change-same, at-change-other}
+use Rattle.lists.proofs.Places.{IsPlace, place-or-nothing, length-change, at-change-same, at-change-other}
 use Rattle.rules.specs.declared.Transaction.{Transaction}
 use Rattle.rules.specs.declared.Enlistment.{Enlistment}
 use Rattle.rules.specs.declared.Table.{Table}
@@ -59,19 +59,6 @@ sound-kept s = record {
 }
 
 -- ── a live transaction stands at a place ────────────────────────────────────────────────────────────────────────
-
-at-beyond : {A : Type 0} (d : A) (k p : ℕ) (xs : List A) → k + length xs ≤ p → atFrom d k p xs ≡ d
-unfolding atFrom
-at-beyond d k p [] h = refl
-at-beyond d k p (x ∷ xs) h = rw (ne-eqb k p (omega arith)) (at-beyond d (suc k) p xs (omega arith))
-
--- p is a place, or nothing stands there
-pub place-or-nothing : {A : Type 0} (d : A) (p : ℕ) (xs : List A) → IsPlace xs p ⊎ (at d p xs ≡ d)
-place-or-nothing d p xs = by-test (eqb p 0)
-    (λ e. inr (at-below d 1 p xs (omega (arith, eqb-true p 0 e))))
-    (λ e. let n : p ≡ 0 → ⊥ = eqb-false p 0 e in by-test (leb p (length xs))
-    (λ c. inl (record { low = omega arith; high = leb-true p (length xs) c }))
-    (λ c. inr (at-beyond d 1 p xs (omega (arith, leb-false p (length xs) c)))))
 
 -- an emptied place is empty
 pub at-emptied : {A : Type 0} (d : A) (p : ℕ) (xs : List A) → at d p (changeAt p (λ x. d) xs) ≡ d

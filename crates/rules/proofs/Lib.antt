@@ -8,3 +8,4 @@ pub mod Along
 pub mod Kept
 pub mod Put
 pub mod Only
+pub mod Parts

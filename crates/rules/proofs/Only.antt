@@ -127,6 +127,14 @@ pub held-goTo : (p q : ℕ) (f : Transaction → Transaction) (tb : Table) → h
 unfolding changeTransaction held
 held-goTo p q f tb = refl
 
+pub used-held : (p : ℕ) (f : Enlistment → Enlistment) (tb : Table) → changeHeld p f tb .used ≡ tb .used
+unfolding changeHeld
+used-held p f tb = refl
+
+pub used-transaction : (p : ℕ) (f : Transaction → Transaction) (tb : Table) → changeTransaction p f tb .used ≡ tb .used
+unfolding changeTransaction
+used-transaction p f tb = refl
+
 -- one that is held
 pub in-held : (p : ℕ) (tb : Table) {e : Enlistment} → e ∈ held p tb → (e ∈ tb .enlistments) × (e .holder ≡ p)
 unfolding held
@@ -184,6 +192,10 @@ open-changes p tb tb′ o i = many-but-one (λ q x. isOpen (x .state) (held q tb
     (λ q n. by-test (eqb q 0)
     (λ e. rw (eqb-true q 0 e, at-below noTransaction 1 0 (tb .transactions) (omega arith), at-below noTransaction 1 0 (tb′ .transactions) (omega arith)))
     (λ e. rw (o .transactions q n, o .enlistments q n (eqb-false q 0 e))))
+
+pub open-use : (n : ℕ) (tb : Table) → openCount (useMore n tb) ≡ openCount tb
+unfolding openPlaces useMore held
+open-use n tb = refl
 
 -- "used + 18 × open ≤ capacity"
 abbrev pub Room : Table → Type 0
