@@ -9,3 +9,4 @@ pub mod Kept
 pub mod Put
 pub mod Only
 pub mod Parts
+pub mod Phases

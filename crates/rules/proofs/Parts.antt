@@ -45,7 +45,7 @@ forget-length : (t : Id) → length t ≡ identifierSize → length (recordBytes
 unfolding recordBytes
 forget-length t e = omega arith
 
-id-length : (p : ℕ) (tb : Table) → Kept tb → Live (transactionAt p tb) → length (idAt p tb) ≡ identifierSize
+pub id-length : (p : ℕ) (tb : Table) → Kept tb → Live (transactionAt p tb) → length (idAt p tb) ≡ identifierSize
 id-length p tb k l = k .transaction-identifiers (transactionAt p tb) (Rattle.lists.proofs.Places.at-member noTransaction (tb .transactions) (live-place p tb l)) l .0
 
 not-open-emptied : (p : ℕ) (tb : Table) → openAt p (emptied p tb) ≡ false
