@@ -10,3 +10,4 @@ pub mod Put
 pub mod Only
 pub mod Parts
 pub mod Phases
+pub mod Reacting

@@ -10,16 +10,17 @@ use borrow.Author.Tests.{eqb-true, eqb-false, eq-eqb, ne-eqb}
 use Rattle.lists.specs.Lists.{any, filter}
 use Rattle.lists.specs.Members.{_∈_, Each, Some}
 use Rattle.lists.specs.Places.{putLowest}
-use Rattle.lists.proofs.Tests.{by-test, is-false, each-head, each-rest, of-filter, in-filter, of-map, in-map}
+use Rattle.lists.proofs.Tests.{by-test, no-clash, is-true, true-and, and-true, none-each, each-none, is-false, each-head, each-rest, of-filter, in-filter, of-map, in-map}
 use Rattle.lists.proofs.Places.{IsPlace, at-below, length-change, length-put, at-change-same, at-change-other, filter-put}
 use Rattle.rules.specs.declared.Transaction.{Transaction}
 use Rattle.rules.specs.declared.Enlistment.{Enlistment}
 use Rattle.rules.specs.declared.Table.{Table}
 use Rattle.rules.specs.Sizes.{recordSize}
-use Rattle.rules.specs.Table.{noTransaction, noEnlistment, isFree, isVacant, heldBy, held, transactionAt, stateAt, freed, inTransactionState, ended, onHeld, changeHeld, changeTransaction, goTo, emptied, useMore, withTransactions, withEnlistments}
+use Rattle.rules.specs.TransactionState as transaction
+use Rattle.rules.specs.Table.{noTransaction, noEnlistment, isFree, isDurable, isVacant, heldBy, held, transactionAt, stateAt, freed, inTransactionState, ended, onHeld, changeHeld, changeTransaction, goTo, emptied, useMore, withTransactions, withEnlistments}
 use Rattle.rules.specs.Sound.{isOpen, openPlaces, openCount, Live, Held}
 use Rattle.rules.proofs.Along.{many-but-one, oneIf}
-use Rattle.rules.proofs.Kept.{Kept, Keeping, stays, moves, goes, kept-map, kept-end, at-emptied, live-place, live-some}
+use Rattle.rules.proofs.Kept.{Kept, Keeping, stays, moves, goes, keeping-key, kept-map, kept-end, at-emptied, live-place, live-some}
 use Rattle.rules.proofs.Put.{freePlace, at-others, vacant-by}
 
 -- From tb to tb′ only the transaction at place p changes, and what it holds.
@@ -206,3 +207,19 @@ pub room-kept : (p : ℕ) (tb tb′ : Table) → Only p tb tb′ → IsPlace (tb
 room-kept p tb tb′ o i u h r = by-test (openAt p tb′)
     (λ t. let c : openCount tb′ + 1 ≡ openCount tb + 1 = rw (t, h t) at (open-changes p tb tb′ o i) in omega (arith, o .same-capacity, u, r, c))
     (λ t. let c : openCount tb′ + oneIf (openAt p tb) ≡ openCount tb + 0 = rw t at (open-changes p tb tb′ o i) in omega (arith, o .same-capacity, u, r, c))
+
+-- a change of what is held, which opens nothing
+pub room-held : (p : ℕ) (f : Enlistment → Enlistment) (tb : Table) → Live (transactionAt p tb) → Keeps f → Room tb → Room (changeHeld p f tb)
+room-held p f tb l keeps = room-kept p tb (changeHeld p f tb) (only-held p f tb n keeps) (live-place p tb l) (used-held p f tb) opened
+  where
+    n : p ≡ 0 → ⊥
+    n = live-some p tb l
+
+    closed : any isDurable (held p tb) ≡ false → any isDurable (held p (changeHeld p f tb)) ≡ false
+    closed c = each-none isDurable _ (each-changed p f tb (λ e. isDurable e ≡ false) (λ e m h.
+        rw (keeping-key (keeps e (λ q. n (sym (in-held p tb m .1) ∙ q))) (λ q. n (sym h ∙ q)) .kind) (none-each isDurable (held p tb) c e m)))
+
+    opened : openAt p (changeHeld p f tb) ≡ true → openAt p tb ≡ true
+    opened t =
+        let (c, d) = true-and (eqb (stateAt p (changeHeld p f tb)) transaction.committing) (any isDurable (held p (changeHeld p f tb))) t in
+        and-true (subst (λ x. eqb (x .state) transaction.committing ≡ true) (at-changed p p f tb) c) (is-true _ (λ q. no-clash _ d (closed q)))

@@ -77,7 +77,7 @@ zeroes : Keeps zeroedOf
 zeroes e h = by-test (isPhaseZero e) (λ t. rw t (moves h _ refl)) (λ t. rw t (stays refl))
 
 -- how an enlistment stands in Phase Zero
-abbrev Zeroing : Enlistment → Type 0
+abbrev pub Zeroing : Enlistment → Type 0
 Zeroing e = (PhaseZero e × In enlistment.zero e) ⊎ ((PhaseZero e → ⊥) × In enlistment.active e)
 
 zeroed : (e : Enlistment) → In enlistment.active e → Zeroing (zeroedOf e)
