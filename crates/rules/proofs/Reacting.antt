@@ -101,3 +101,74 @@ module _ {s : ℕ} {hs : List Enlistment} (e : Enlistment) (m : e ∈ hs) where
   before-decision (HoldsWell.single-phase q n h) z = absurd (omega (arith, h e m .2))
   before-decision (HoldsWell.committing q n h x) z = absurd (omega (arith, committed-range e (h e m)))
   before-decision (HoldsWell.aborting q h x) z = absurd (omega (arith, aborted-range e (h e m)))
+
+-- ── one enlistment changes ──────────────────────────────────────────────────────────────────────────────────────
+
+pub on-number : (n : ℕ) {f : Enlistment → Enlistment} → Keeps f → Keeps (onNumber n f)
+on-number n keeps e h = by-test (isNumbered n e) (λ t. rw t (keeps e h)) (λ t. rw t (stays refl))
+
+goes-to : (s : ℕ) → Keeps (inState s)
+goes-to s e h = moves h s refl
+
+frees : Keeps freed
+frees e h = goes refl
+
+-- the enlistment with number n, and the transaction that holds it
+pub record Named (n : ℕ) (tb : Table) (e : Enlistment) : Type 0 where
+  pub here : e ∈ held (e .holder) tb
+  pub live : Live (transactionAt (e .holder) tb)
+  pub number : e .number ≡ n
+  pub alone : Each (λ f. f .number ≡ n → f ≡ e) (held (e .holder) tb)
+
+pub is-named : (n : ℕ) (tb : Table) → Sound tb → (n ≡ 0 → ⊥) → any (isNumbered n) (tb .enlistments) ≡ true → Named n tb (numbered n tb)
+unfolding numbered
+is-named n tb s z t = record {
+  here = is-in-held (e .holder) tb (found .0) refl;
+  live = s .holders-live e (found .0) is-held;
+  number = of-n;
+  alone = λ f m q.
+      let (i, h) = in-held (e .holder) tb m in
+      apart-one (λ x y. sym) (s .numbers-differ) (in-filter isHeld (tb .enlistments) i (held-true f (λ c. is-held (sym h ∙ c)))) (in-filter isHeld (tb .enlistments) (found .0) (held-true e is-held)) (q ∙ sym of-n);
+}
+  where
+    e : Enlistment
+    e = numbered n tb
+
+    found : (e ∈ tb .enlistments) × (isNumbered n e ≡ true)
+    found = first-passes noEnlistment (isNumbered n) (tb .enlistments) t
+
+    of-n : e .number ≡ n
+    of-n = eqb-true (e .number) n (found .1)
+
+    is-held : Held e
+    is-held q = z (sym of-n ∙ ap (λ x. x .number) (s .empty-enlistments e (found .0) q))
+
+module _ (n : ℕ) (tb : Table) (log : List ℕ) (e : Enlistment) (s : Sound tb) (d : Named n tb e) where
+  abbrev p : ℕ
+  p = e .holder
+
+  well : HoldsWell (stateAt p tb) (held p tb)
+  well = s .states p (d .live)
+
+  each-one : (f : Enlistment → Enlistment) (P : Enlistment → Type 0) → (f e .holder ≡ p → P (f e)) → Each P (held p tb) → Each P (held p (changeNumber p n f tb))
+  each-one f P one rest = each-changed p (onNumber n f) tb P (λ g m. by-test (isNumbered n g)
+      (λ t. rw (t, d .alone g m (eqb-true (g .number) n t)) one)
+      (λ t. rw t (λ h. rest g m)))
+
+  -- what follows goes on from here
+  module _ (f : Enlistment → Enlistment) (keeps : Keeps f) where
+    abbrev after : Table
+    after = changeNumber p n f tb
+
+    kept-one : Kept after
+    kept-one = kept-held p (onNumber n f) tb (live-some p tb (d .live)) (on-number n keeps) (sound-kept s)
+
+    live-one : Live (transactionAt p after)
+    live-one = rw (at-changed p p (onNumber n f) tb) (d .live)
+
+    part-one : {tb′ : Table} → Part p after tb′ → Part p tb tb′
+    part-one h = part-then (only-held p (onNumber n f) tb (live-some p tb (d .live)) (on-number n keeps)) (room-held p (onNumber n f) tb (d .live) (on-number n keeps)) h
+
+    -- nothing follows
+    quiet-part : HoldsWell (stateAt p tb) (held p after) → Part p tb after
+    quiet-part w = part-one (record { only = only-same p after; kept = kept-one; well = λ m. subst (λ x. HoldsWell (x .state) (held p after)) (sym (at-changed p p (onNumber n f) tb)) w; room = λ r. r })
