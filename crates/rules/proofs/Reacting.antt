@@ -6,13 +6,17 @@ use mathlib.Core.Logic.{_⊎_, inl, inr}
 use mathlib.Core.Bool.{Bool, true, false, cond, _||_}
 use mathlib.Core.List.{List, [], _∷_}
 use lib.Dec.{eqb}
-use borrow.Author.Tests.{eqb-true, eqb-false}
+use borrow.Author.Tests.{eqb-true, eqb-false, eq-eqb, ne-eqb}
 use Rattle.lists.specs.Lists.{any}
 use Rattle.lists.specs.Members.{_∈_, Each, Some}
 use Rattle.lists.proofs.Tests.{by-test, by-either, true-or, any-some, none-each, in-filter, first-passes}
 use Rattle.rules.specs.declared.Enlistment.{Enlistment}
 use Rattle.rules.specs.declared.Table.{Table}
+use Rattle.rules.specs.declared.Act.{Act}
 use Rattle.rules.specs.declared.Act.the-variants as act
+use Rattle.rules.specs.declared.Name.{Name}
+use Rattle.rules.specs.declared.Name.the-variants as name
+use Rattle.rules.specs.declared.FollowUp.the-variants as then
 use Rattle.rules.specs.declared.Vote.{Vote}
 use Rattle.rules.specs.declared.Vote.the-variants as vote
 use Rattle.rules.specs.declared.Reply.{Reply}
@@ -21,7 +25,7 @@ use Rattle.rules.specs.TransactionState as transaction
 use Rattle.rules.specs.EnlistmentState as enlistment
 use Rattle.rules.specs.Table.{noEnlistment, isNumbered, numbered, isPhaseZero, isHeld, durableKind, isIn, held, transactionAt, stateAt, inState, freed, onNumber, changeHeld, changeNumber}
 use Rattle.rules.specs.Sound.{In, PhaseZero, Durable, HoldsWell, Live, Held, Sound}
-use Rattle.rules.specs.Events.{toLost, reactionOf, follow, react, reactedOf}
+use Rattle.rules.specs.Events.{toVote, toReply, toLost, reactionOf, follow, react, reactedOf}
 use Rattle.rules.proofs.Along.{apart-one}
 use Rattle.rules.proofs.Kept.{Kept, sound-kept, Keeping, stays, moves, goes, live-some, held-true}
 use Rattle.rules.proofs.Only.{only-same, Keeps, only-held, kept-held, at-changed, in-held, is-in-held, each-changed, some-changed, room-held}
@@ -169,6 +173,162 @@ module _ (n : ℕ) (tb : Table) (log : List ℕ) (e : Enlistment) (s : Sound tb)
     part-one : {tb′ : Table} → Part p after tb′ → Part p tb tb′
     part-one h = part-then (only-held p (onNumber n f) tb (live-some p tb (d .live)) (on-number n keeps)) (room-held p (onNumber n f) tb (d .live) (on-number n keeps)) h
 
+    well-one : HoldsWell (stateAt p tb) (held p after) → HoldsWell (stateAt p after) (held p after)
+    well-one w = subst (λ x. HoldsWell (x .state) (held p after)) (sym (at-changed p p (onNumber n f) tb)) w
+
     -- nothing follows
     quiet-part : HoldsWell (stateAt p tb) (held p after) → Part p tb after
-    quiet-part w = part-one (record { only = only-same p after; kept = kept-one; well = λ m. subst (λ x. HoldsWell (x .state) (held p after)) (sym (at-changed p p (onNumber n f) tb)) w; room = λ r. r })
+    quiet-part w = part-one (record { only = only-same p after; kept = kept-one; well = λ m. well-one w; room = λ r. r })
+
+  -- a refused reaction does nothing
+  same-part : Part p tb tb
+  same-part = record { only = only-same p tb; kept = sound-kept s; well = λ m. well; room = λ r. r }
+
+  -- ── what follows ──────────────────────────────────────────────────────────────────────────────────────────────
+
+  zero-done-part : In enlistment.zero e → Part p tb (follow then.StartPhaseOne p (changeNumber p n freed tb) log .table)
+  unfolding follow
+  zero-done-part z =
+      let (q, h) = in-phase-zero e (d .here) well z in
+      by-test (any isPhaseZero (held p (changeNumber p n freed tb)))
+      (λ t. let x = any-some isPhaseZero _ t in
+      rw t (quiet-part freed frees (HoldsWell.phase-zero q (each-one freed Zeroing (λ c. absurd (live-some p tb (d .live) (sym c))) h)
+      (record { it = x .it; there = x .there; holds = eqb-true _ _ (x .holds) }))))
+      (λ t. rw t (part-one freed frees (start-part p (changeNumber p n freed tb) log (kept-one freed frees) (live-one freed frees)
+      (λ g m. eqb-false _ _ (none-each isPhaseZero _ t g m)))))
+
+  vote-part : (f : Enlistment → Enlistment) → Keeps f → In enlistment.preparing e → (f e .holder ≡ p → (f e .kind ≡ e .kind) × Voted (f e)) → Part p tb (follow then.Decide p (changeNumber p n f tb) log .table)
+  unfolding follow
+  vote-part f keeps z one =
+      let (q, n-, h, x) = in-phase-one e (d .here) well (omega arith) (omega arith) in
+      let nots : Each (λ g. PhaseZero g → ⊥) (held p (changeNumber p n f tb)) = each-one f (λ g. PhaseZero g → ⊥) (λ c k. n- e (d .here) (sym (one c .0) ∙ k)) n- in
+      let votes : Each Voting (held p (changeNumber p n f tb)) = each-one f Voting (λ c. inr (one c .1)) h in
+      by-test (any (isIn enlistment.preparing) (held p (changeNumber p n f tb)))
+      (λ t. let y = any-some (isIn enlistment.preparing) _ t in
+      rw t (quiet-part f keeps (HoldsWell.phase-one q nots votes (record { it = y .it; there = y .there; holds = eqb-true _ _ (y .holds) }))))
+      (λ t. rw t (part-one f keeps (decide-part p (changeNumber p n f tb) (kept-one f keeps) (live-one f keeps) log nots
+      (λ g m. by-either (λ c. absurd (eqb-false _ _ (none-each (isIn enlistment.preparing) _ t g m) c)) (λ c. c) (votes g m)))))
+
+  then-abort : e .state ≤ enlistment.prepared → Part p tb (follow then.Abort p (changeNumber p n (inState enlistment.done) tb) log .table)
+  unfolding follow
+  then-abort z = part-one (inState enlistment.done) (goes-to enlistment.done) (abort-part p _ log (kept-one _ (goes-to enlistment.done)) (live-one _ (goes-to enlistment.done))
+      (each-one (inState enlistment.done) Abortable (λ c. inr (inr refl)) (before-decision e (d .here) well z)))
+
+  then-end-with : (a : Name) → Part p tb (follow (then.EndWith a) p (changeNumber p n freed tb) log .table)
+  unfolding follow
+  then-end-with a = part-one freed frees (end-part p _ log (kept-one freed frees) (live-one freed frees))
+
+  then-end : In enlistment.toldCommit e ⊎ In enlistment.toldAbort e → Part p tb (follow then.End p (changeNumber p n (inState enlistment.done) tb) log .table)
+  unfolding follow
+  then-end z = part-one (inState enlistment.done) (goes-to enlistment.done)
+      (end-if-done-part p _ log (kept-one _ (goes-to enlistment.done)) (live-one _ (goes-to enlistment.done))
+      (λ x. well-one _ (goes-to enlistment.done) (by-either (λ c. committing c x) (λ c. aborting c x) z)))
+    where
+      committing : In enlistment.toldCommit e → Some (λ g. In enlistment.done g → ⊥) (held p (changeNumber p n (inState enlistment.done) tb))
+          → HoldsWell (stateAt p tb) (held p (changeNumber p n (inState enlistment.done) tb))
+      committing z x =
+          let (q, n-, h) = in-committing e (d .here) well z in
+          HoldsWell.committing q (each-one (inState enlistment.done) (λ g. PhaseZero g → ⊥) (λ c. n- e (d .here)) n-) (each-one (inState enlistment.done) Committed (λ c. inr (inr refl)) h) x
+
+      aborting : In enlistment.toldAbort e → Some (λ g. In enlistment.done g → ⊥) (held p (changeNumber p n (inState enlistment.done) tb))
+          → HoldsWell (stateAt p tb) (held p (changeNumber p n (inState enlistment.done) tb))
+      aborting z x =
+          let (q, h) = in-aborting e (d .here) well z in
+          let each : Each Aborted (held p (changeNumber p n (inState enlistment.done) tb)) = each-one (inState enlistment.done) Aborted (λ c. inr refl) h in
+          HoldsWell.aborting q each (record { it = x .it; there = x .there; holds = by-either (λ c. c) (λ c. absurd (x .holds c)) (each (x .it) (x .there)) })
+
+  -- "D in 4: 5": another one is still Preparing
+  lost-prepared : In enlistment.prepared e → Durable e → Part p tb (changeNumber p n (inState enlistment.preparedLost) tb)
+  lost-prepared z k =
+      let (q, n-, h, x) = in-phase-one e (d .here) well (omega arith) (omega arith) in
+      quiet-part (inState enlistment.preparedLost) (goes-to enlistment.preparedLost)
+      (HoldsWell.phase-one q (each-one (inState enlistment.preparedLost) (λ g. PhaseZero g → ⊥) (λ c. n- e (d .here)) n-)
+      (each-one (inState enlistment.preparedLost) Voting (λ c. inr (inr (refl, k))) h)
+      (some-changed p (onNumber n (inState enlistment.preparedLost)) tb (other x)))
+    where
+      other : Some (In enlistment.preparing) (held p tb)
+          → Some (λ g. (onNumber n (inState enlistment.preparedLost) g .holder ≡ p) × In enlistment.preparing (onNumber n (inState enlistment.preparedLost) g)) (held p tb)
+      other x = record {
+        it = x .it;
+        there = x .there;
+        holds = rw (ne-eqb (x .it .number) n (λ c. omega (arith, z, x .holds, ap (λ g. g .state) (d .alone (x .it) (x .there) c)))) (in-held p tb (x .there) .1, x .holds);
+      }
+
+  -- "D in 7: 8"
+  lost-told : In enlistment.toldCommit e → Durable e → Part p tb (changeNumber p n (inState enlistment.failedToNotify) tb)
+  lost-told z k =
+      let (q, n-, h) = in-committing e (d .here) well z in
+      quiet-part (inState enlistment.failedToNotify) (goes-to enlistment.failedToNotify)
+      (HoldsWell.committing q (each-one (inState enlistment.failedToNotify) (λ g. PhaseZero g → ⊥) (λ c. n- e (d .here)) n-)
+      (each-one (inState enlistment.failedToNotify) Committed (λ c. inr (inl (refl, k))) h)
+      (some-changed p (onNumber n (inState enlistment.failedToNotify)) tb (record { it = e; there = d .here; holds = itself })))
+    where
+      itself : (onNumber n (inState enlistment.failedToNotify) e .holder ≡ p) × (In enlistment.done (onNumber n (inState enlistment.failedToNotify) e) → ⊥)
+      itself = rw (eq-eqb (e .number) n (d .number)) (refl, λ c. omega arith)
+
+  -- ── the reactions ─────────────────────────────────────────────────────────────────────────────────────────────
+
+  -- what the event a does
+  abbrev Reacts : Act → Type 0
+  Reacts a = Part p tb (react (reactionOf (e .kind) (e .state) a) p n tb log .table)
+
+  react-zero-done : (m : ℕ) → Reacts (act.ZeroDone m)
+  unfolding react reactionOf
+  react-zero-done m = by-test (eqb (e .state) enlistment.zero) (λ t. rw t (zero-done-part (eqb-true _ _ t))) (λ t. rw t same-part)
+
+  react-vote : (m : ℕ) (v : Vote) → Reacts (act.Vote m v)
+  unfolding react reactionOf
+  react-vote m v = by-test (eqb (e .state) enlistment.preparing) (λ t. rw t (by-vote v (eqb-true _ _ t))) (λ t. rw t same-part)
+    where
+      by-vote : (v : Vote) → In enlistment.preparing e → Part p tb (react (toVote v) p n tb log .table)
+      by-vote vote.Prepared z = vote-part (inState enlistment.prepared) (goes-to enlistment.prepared) z (λ c. (refl, inl refl))
+      by-vote vote.ReadOnly z = vote-part freed frees z (λ c. absurd (live-some p tb (d .live) (sym c)))
+      by-vote vote.Aborted z = then-abort (omega arith)
+
+  react-reply : (m : ℕ) (r : Reply) → Reacts (act.Reply m r)
+  unfolding react reactionOf
+  react-reply m r = by-test (eqb (e .state) enlistment.onePhase) (λ t. rw t (then-end-with (toReply r))) (λ t. rw t same-part)
+
+  react-ack : (m : ℕ) → Reacts (act.Ack m)
+  unfolding react reactionOf
+  react-ack m = by-test (eqb (e .state) enlistment.toldCommit || eqb (e .state) enlistment.toldAbort)
+      (λ t. rw t (then-end (by-either (λ c. inl (eqb-true _ _ c)) (λ c. inr (eqb-true _ _ c)) (true-or _ _ t))))
+      (λ t. rw t same-part)
+
+  early : (x : ℕ) → (eqb x enlistment.active || eqb x enlistment.zero || eqb x enlistment.preparing) ≡ true → x ≤ enlistment.prepared
+  early x t = by-either
+      (λ c. by-either (λ b. omega (arith, eqb-true x enlistment.active b)) (λ b. omega (arith, eqb-true x enlistment.zero b)) (true-or (eqb x enlistment.active) (eqb x enlistment.zero) c))
+      (λ c. omega (arith, eqb-true x enlistment.preparing c))
+      (true-or (eqb x enlistment.active || eqb x enlistment.zero) (eqb x enlistment.preparing) t)
+
+  react-lost : (m : ℕ) → Reacts (act.Lost m)
+  unfolding react reactionOf toLost follow
+  react-lost m = by-test (eqb (e .state) enlistment.active || eqb (e .state) enlistment.zero || eqb (e .state) enlistment.preparing)
+      (λ t. rw t (then-abort (early (e .state) t)))
+      (λ t. rw t (by-test (eqb (e .state) enlistment.prepared)
+      (λ a. rw a (by-test (durableKind (e .kind)) (λ c. rw c (lost-prepared (eqb-true _ _ a) (eqb-true _ _ c))) (λ c. rw c (then-abort (omega (arith, eqb-true (e .state) enlistment.prepared a))))))
+      (λ a. rw a (by-test (eqb (e .state) enlistment.onePhase)
+      (λ b. rw b (then-end-with name.AppInDoubt))
+      (λ b. rw b (by-test (eqb (e .state) enlistment.toldCommit)
+      (λ u. rw u (by-test (durableKind (e .kind)) (λ c. rw c (lost-told (eqb-true _ _ u) (eqb-true _ _ c))) (λ c. rw c (then-end (inl (eqb-true _ _ u))))))
+      (λ u. rw u (by-test (eqb (e .state) enlistment.toldAbort) (λ c. rw c (then-end (inr (eqb-true _ _ c)))) (λ c. rw c same-part)))))))))
+
+  -- the others have no reaction
+  react-part : (a : Act) → Reacts a
+  unfolding react reactionOf
+  react-part act.Begin = same-part
+  react-part (act.Enlist m k y) = same-part
+  react-part act.Commit = same-part
+  react-part (act.ZeroDone m) = react-zero-done m
+  react-part (act.Vote m v) = react-vote m v
+  react-part act.Rollback = same-part
+  react-part (act.Reply m r) = react-reply m r
+  react-part (act.Ack m) = react-ack m
+  react-part (act.Lost m) = react-lost m
+  react-part act.Ask = same-part
+  react-part act.Reenlisted = same-part
+
+pub reacted-part : (n : ℕ) (a : Act) (tb : Table) (log : List ℕ) → Sound tb → (n ≡ 0 → ⊥) → any (isNumbered n) (tb .enlistments) ≡ true
+    → Part (numbered n tb .holder) tb (reactedOf n a tb log .table)
+unfolding reactedOf
+reacted-part n a tb log s z t = react-part n tb log (numbered n tb) s (is-named n tb s z t) a
