@@ -11,3 +11,4 @@ pub mod Only
 pub mod Parts
 pub mod Phases
 pub mod Reacting
+pub mod Entered

@@ -47,12 +47,12 @@ only-then r s = record {
 abbrev pub Keeps : (Enlistment → Enlistment) → Type 0
 Keeps f = (e : Enlistment) → Held e → Keeping e (f e)
 
-filter-map-same : {A : Type 0} (t : A → Bool) (g : A → A) (xs : List A) → ((x : A) → (t (g x) ≡ t x) × (t x ≡ true → g x ≡ x)) → filter t (map g xs) ≡ filter t xs
+pub filter-map-same : {A : Type 0} (t : A → Bool) (g : A → A) (xs : List A) → Each (λ x. (t (g x) ≡ t x) × (t x ≡ true → g x ≡ x)) xs → filter t (map g xs) ≡ filter t xs
 unfolding filter
 filter-map-same t g [] h = refl
 filter-map-same t g (x ∷ xs) h = by-test (t x)
-    (λ e. rw (h x .0, e, h x .1 e, filter-map-same t g xs h))
-    (λ e. rw (h x .0, e, filter-map-same t g xs h))
+    (λ e. rw (each-head h .0, e, each-head h .1 e, filter-map-same t g xs (each-rest h)))
+    (λ e. rw (each-head h .0, e, filter-map-same t g xs (each-rest h)))
 
 module _ (p : ℕ) (f : Enlistment → Enlistment) (tb : Table) (some : p ≡ 0 → ⊥) (keeps : Keeps f) where
   not-by : (q : ℕ) → (q ≡ p → ⊥) → (q ≡ 0 → ⊥) → (e e′ : Enlistment) → e .holder ≡ p → Keeping e e′ → heldBy q e′ ≡ false
@@ -64,7 +64,7 @@ module _ (p : ℕ) (f : Enlistment → Enlistment) (tb : Table) (some : p ≡ 0 
   unfolding changeHeld held
   only-held = record {
     transactions = λ q n. refl;
-    enlistments = λ q n z. filter-map-same (heldBy q) (onHeld p f) (tb .enlistments) (λ e. by-test (heldBy p e)
+    enlistments = λ q n z. filter-map-same (heldBy q) (onHeld p f) (tb .enlistments) (λ e m. by-test (heldBy p e)
         (λ t. let h : e .holder ≡ p = eqb-true (e .holder) p t in
         let o : heldBy q e ≡ false = ne-eqb (e .holder) q (λ d. n (sym d ∙ h)) in
         rw (t, o) (not-by q n z e (f e) h (keeps e (λ c. some (sym h ∙ c))), λ c. absurd (false≢true c)))

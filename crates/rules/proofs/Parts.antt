@@ -54,10 +54,11 @@ not-open-emptied p tb = ap (λ x. isOpen (x .state) (held p (emptied p tb))) (at
 used-emptied : (p : ℕ) (tb : Table) → emptied p tb .used ≡ tb .used
 used-emptied p tb = used-transaction p ended (changeHeld p freed tb) ∙ used-held p freed tb
 
-pub end-part : (p : ℕ) (tb : Table) (log : List ℕ) → Kept tb → Live (transactionAt p tb) → Part p tb (endOf p tb log .table)
+-- at any place
+pub end-at : (p : ℕ) (tb : Table) (log : List ℕ) → Kept tb → IsPlace (tb .transactions) p → Part p tb (endOf p tb log .table)
 unfolding endOf append useMore
-end-part p tb log k l =
-    let n : p ≡ 0 → ⊥ = live-some p tb l in
+end-at p tb log k i =
+    let n : p ≡ 0 → ⊥ = λ z. omega (arith, z, i .low) in
     let o : Only p tb (emptied p tb) = only-emptied p tb n in
     let gone : Live (transactionAt p (emptied p tb)) → ⊥ = λ m. m (ap (λ x. x .state) (at-emptied-place p tb)) in
     by-test (openAt p tb)
@@ -71,15 +72,21 @@ end-part p tb log k l =
       only = o;
       kept = kept-emptied p tb n k;
       well = λ m. absurd (gone m);
-      room = room-kept p tb (emptied p tb) o (live-place p tb l) (used-emptied p tb) (λ c. no-clash _ c (not-open-emptied p tb));
+      room = room-kept p tb (emptied p tb) o i (used-emptied p tb) (λ c. no-clash _ c (not-open-emptied p tb));
     }))
   where
+    open-live : openAt p tb ≡ true → Live (transactionAt p tb)
+    open-live t z = omega (arith, z, eqb-true (stateAt p tb) transaction.committing (true-and _ _ t .0))
+
     written-room : Only p tb (emptied p tb) → openAt p tb ≡ true → Room tb → Room (useMore (length (recordBytes (Record.forget (idAt p tb)))) (emptied p tb))
     written-room o t r =
-        let c : openCount (emptied p tb) + 1 ≡ openCount tb + 0 = rw (t, not-open-emptied p tb) at (open-changes p tb (emptied p tb) o (live-place p tb l)) in
-        omega (arith, r, c, o .same-capacity, used-emptied p tb, open-use (length (recordBytes (Record.forget (idAt p tb)))) (emptied p tb), forget-length (idAt p tb) (id-length p tb k l))
+        let c : openCount (emptied p tb) + 1 ≡ openCount tb + 0 = rw (t, not-open-emptied p tb) at (open-changes p tb (emptied p tb) o i) in
+        omega (arith, r, c, o .same-capacity, used-emptied p tb, open-use (length (recordBytes (Record.forget (idAt p tb)))) (emptied p tb), forget-length (idAt p tb) (id-length p tb k (open-live t)))
 
-some-undone : (hs : List Enlistment) → all isDone hs ≡ false → Some (λ e. In enlistment.done e → ⊥) hs
+pub end-part : (p : ℕ) (tb : Table) (log : List ℕ) → Kept tb → Live (transactionAt p tb) → Part p tb (endOf p tb log .table)
+end-part p tb log k l = end-at p tb log k (live-place p tb l)
+
+pub some-undone : (hs : List Enlistment) → all isDone hs ≡ false → Some (λ e. In enlistment.done e → ⊥) hs
 some-undone hs t =
     let s = any-some (λ e. not (isDone e)) hs (sym (not-all isDone hs) ∙ rw t) in
     record { it = s .it; there = s .there; holds = eqb-false _ _ (not-true _ (s .holds)) }
