@@ -132,6 +132,10 @@ module _ {A : Type 0} (f g : ℕ → A → Bool) (d : A) where
       let j : f k x ≡ g k y = rw (eq-eqb k k refl) at (h k (omega arith)) in
       by-test (g k y) (λ c. rw (j, c) (ap suc i)) (λ c. rw (j, c) i)
 
+  -- where all places pass alike
+  pub as-many : (xs ys : List A) → length xs ≡ length ys → ((q : ℕ) → f q (at d q xs) ≡ g q (at d q ys)) → length (placesWhere f xs) ≡ length (placesWhere g ys)
+  as-many xs ys e h = many-same 1 xs ys e (λ q l. h q)
+
   many-from : (k p : ℕ) (xs ys : List A) → length xs ≡ length ys → k ≤ p → p < k + length xs
       → ((q : ℕ) → k ≤ q → (q ≡ p → ⊥) → f q (atFrom d k q xs) ≡ g q (atFrom d k q ys))
       → length (placesFrom g k ys) + oneIf (f p (atFrom d k p xs)) ≡ length (placesFrom f k xs) + oneIf (g p (atFrom d k p ys))

@@ -12,3 +12,4 @@ pub mod Parts
 pub mod Phases
 pub mod Reacting
 pub mod Entered
+pub mod Told

@@ -83,6 +83,11 @@ end-at p tb log k i =
         let c : openCount (emptied p tb) + 1 ≡ openCount tb + 0 = rw (t, not-open-emptied p tb) at (open-changes p tb (emptied p tb) o i) in
         omega (arith, r, c, o .same-capacity, used-emptied p tb, open-use (length (recordBytes (Record.forget (idAt p tb)))) (emptied p tb), forget-length (idAt p tb) (id-length p tb k (open-live t)))
 
+-- nothing is live there any more
+pub end-over : (p : ℕ) (tb : Table) (log : List ℕ) → transactionAt p (endOf p tb log .table) ≡ noTransaction
+unfolding endOf append useMore
+end-over p tb log = by-test (openAt p tb) (λ t. rw t (at-emptied-place p tb)) (λ t. rw t (at-emptied-place p tb))
+
 pub end-part : (p : ℕ) (tb : Table) (log : List ℕ) → Kept tb → Live (transactionAt p tb) → Part p tb (endOf p tb log .table)
 end-part p tb log k l = end-at p tb log k (live-place p tb l)
 

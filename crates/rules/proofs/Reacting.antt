@@ -35,27 +35,27 @@ use Rattle.rules.proofs.Phases.{Zeroing, start-part, Voted, Committed, 
 -- ── which line of the table of states it is ─────────────────────────────────────────────────────────────────────
 
 -- how an enlistment stands in Phase One, and in Aborting
-abbrev Voting : Enlistment → Type 0
+abbrev pub Voting : Enlistment → Type 0
 Voting e = In enlistment.preparing e ⊎ Voted e
 
-abbrev Aborted : Enlistment → Type 0
+abbrev pub Aborted : Enlistment → Type 0
 Aborted e = In enlistment.toldAbort e ⊎ In enlistment.done e
 
-zeroing-range : (e : Enlistment) → Zeroing e → (1 ≤ e .state) × (e .state ≤ 2)
+pub zeroing-range : (e : Enlistment) → Zeroing e → (1 ≤ e .state) × (e .state ≤ 2)
 zeroing-range e (inl h) = (omega arith, omega arith)
 zeroing-range e (inr h) = (omega arith, omega arith)
 
-voting-range : (e : Enlistment) → Voting e → (3 ≤ e .state) × (e .state ≤ 5)
+pub voting-range : (e : Enlistment) → Voting e → (3 ≤ e .state) × (e .state ≤ 5)
 voting-range e (inl h) = (omega arith, omega arith)
 voting-range e (inr (inl h)) = (omega arith, omega arith)
 voting-range e (inr (inr h)) = (omega arith, omega arith)
 
-committed-range : (e : Enlistment) → Committed e → (7 ≤ e .state) × (e .state ≡ 9 → ⊥)
+pub committed-range : (e : Enlistment) → Committed e → (7 ≤ e .state) × (e .state ≡ 9 → ⊥)
 committed-range e (inl h) = (omega arith, λ z. omega arith)
 committed-range e (inr (inl h)) = (omega arith, λ z. omega arith)
 committed-range e (inr (inr h)) = (omega arith, λ z. omega arith)
 
-aborted-range : (e : Enlistment) → Aborted e → 9 ≤ e .state
+pub aborted-range : (e : Enlistment) → Aborted e → 9 ≤ e .state
 aborted-range e (inl h) = omega arith
 aborted-range e (inr h) = omega arith
 
