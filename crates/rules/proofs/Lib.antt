@@ -13,3 +13,4 @@ pub mod Phases
 pub mod Reacting
 pub mod Entered
 pub mod Told
+pub mod Own
