@@ -14,3 +14,4 @@ pub mod Reacting
 pub mod Entered
 pub mod Told
 pub mod Own
+pub mod Used
