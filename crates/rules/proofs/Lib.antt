@@ -15,3 +15,4 @@ pub mod Entered
 pub mod Told
 pub mod Own
 pub mod Used
+pub mod Count

@@ -34,7 +34,7 @@ use Rattle.rules.proofs.Parts.{Part, Abortable, abort-part}
 use Rattle.rules.proofs.Kept.{Kept, sound-kept, live-some}
 use Rattle.rules.proofs.Only.{Room}
 use Rattle.rules.proofs.Phases.{commit-part}
-use Rattle.rules.proofs.Reacting.{zeroing-range, reacted-part}
+use Rattle.rules.proofs.Reacting.{zeroing-range, Named, is-named, reacted-part}
 use Rattle.rules.proofs.Entered.{named-live, begin-part, Enlistable, enlist-part}
 use Rattle.rules.proofs.Told.{ask-part, reenlisted-well, reenlisted-kept, reenlisted-room, reenlisted-capacity, reenlisted-others}
 
@@ -163,18 +163,27 @@ module _ (tb : Table) (e : Event) (log : List ℕ) (s : Sound tb) (y : Typed e) 
     some-left = leb-false heldMost (length (held p tb)) (false-or (none isVacant (tb .enlistments)) (leb heldMost (length (held p tb))) (fails _ 6 refl c) .1);
   })
 
+  -- Commit and Rollback name a live transaction
+  pub commit-live : e .act ≡ act.Commit → Live (transactionAt p tb)
+  unfolding all
+  commit-live q = named-live t tb (eqb-false p 0 (fails _ 3 refl (refusal-commit tb e (length log) q)))
+
+  pub rollback-live : e .act ≡ act.Rollback → Live (transactionAt p tb)
+  unfolding all
+  rollback-live q = named-live t tb (eqb-false p 0 (fails _ 3 refl (refusal-rollback tb e (length log) q)))
+
   commit-own : e .act ≡ act.Commit → Part p tb (acted act.Commit t r tb log .table)
   unfolding acted all
   commit-own q =
       let c = refusal-commit tb e (length log) q in
-      let l : Live (transactionAt p tb) = named-live t tb (eqb-false p 0 (fails _ 3 refl c)) in
+      let l : Live (transactionAt p tb) = commit-live q in
       commit-part p tb log (sound-kept s) l (in-active (s .states p l) (eqb-true (stateAt p tb) transaction.active (not-false _ (fails _ 4 refl c))))
 
   rollback-own : e .act ≡ act.Rollback → Part p tb (acted act.Rollback t r tb log .table)
   unfolding acted all
   rollback-own q =
       let c = refusal-rollback tb e (length log) q in
-      let l : Live (transactionAt p tb) = named-live t tb (eqb-false p 0 (fails _ 3 refl c)) in
+      let l : Live (transactionAt p tb) = rollback-live q in
       abort-part p tb log (sound-kept s) l (rolled-back (s .states p l) (by-either (λ z. omega arith) (λ z. omega arith) (active-or-zero (stateAt p tb) (fails _ 4 refl c))))
 
   ask-own : Part p tb (acted act.Ask t r tb log .table)
@@ -182,9 +191,12 @@ module _ (tb : Table) (e : Event) (log : List ℕ) (s : Sound tb) (y : Typed e) 
   ask-own = ask-part r p tb log s
 
   -- an event about the enlistment with number n
-  one-own : (n : ℕ) (a : Act) → refusalOf tb e (length log) ≡ firstOf (firstTwo tb (length log) (checksOfOne tb n a)) → Part (numbered n tb .holder) tb (reactedOf n a tb log .table)
+  pub one-named : (n : ℕ) (a : Act) → refusalOf tb e (length log) ≡ firstOf (firstTwo tb (length log) (checksOfOne tb n a)) → Named n tb (numbered n tb)
   unfolding all
-  one-own n a c = reacted-part n a tb log s (eqb-false n 0 (fails _ 2 refl c)) (not-false _ (fails _ 3 refl c))
+  one-named n a c = is-named n tb s (eqb-false n 0 (fails _ 2 refl c)) (not-false _ (fails _ 3 refl c))
+
+  one-own : (n : ℕ) (a : Act) → refusalOf tb e (length log) ≡ firstOf (firstTwo tb (length log) (checksOfOne tb n a)) → Part (numbered n tb .holder) tb (reactedOf n a tb log .table)
+  one-own n a c = reacted-part n a tb log s (one-named n a c)
 
   -- ── the step ──────────────────────────────────────────────────────────────────────────────────────────────────
 

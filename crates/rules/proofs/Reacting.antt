@@ -328,7 +328,6 @@ module _ (n : ℕ) (tb : Table) (log : List ℕ) (e : Enlistment) (s : Sound tb)
   react-part act.Ask = same-part
   react-part act.Reenlisted = same-part
 
-pub reacted-part : (n : ℕ) (a : Act) (tb : Table) (log : List ℕ) → Sound tb → (n ≡ 0 → ⊥) → any (isNumbered n) (tb .enlistments) ≡ true
-    → Part (numbered n tb .holder) tb (reactedOf n a tb log .table)
+pub reacted-part : (n : ℕ) (a : Act) (tb : Table) (log : List ℕ) → Sound tb → Named n tb (numbered n tb) → Part (numbered n tb .holder) tb (reactedOf n a tb log .table)
 unfolding reactedOf
-reacted-part n a tb log s z t = react-part n tb log (numbered n tb) s (is-named n tb s z t) a
+reacted-part n a tb log s d = react-part n tb log (numbered n tb) s d a
