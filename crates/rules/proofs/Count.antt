@@ -1,9 +1,9 @@
 -- "At most 17" signals: one to each enlistment that the transaction holds, of which there are at most 16, and one to the application.
-use Prim.Native.Nat.{ℕ, suc, _+_, _≤_}
+use Prim.Native.Nat.{ℕ, _≤_}
 use native.Mathlib.Omega.{arith}
 use mathlib.Core.Path.{_≡_, refl, _∙_}
 use mathlib.Core.Bool.{_&&_}
-use mathlib.Core.List.{List, [], _∷_, _++_, map}
+use mathlib.Core.List.{List, [], _∷_, map}
 use lib.ListN.{length, length-map, length-append}
 use lib.Dec.{eqb}
 use Rattle.lists.specs.Lists.{all, any, none, filter}
@@ -28,9 +28,9 @@ use Rattle.rules.specs.TransactionState as transaction
 use Rattle.rules.specs.EnlistmentState as enlistment
 use Rattle.rules.specs.Sizes.{heldMost, signalsMost}
 use Rattle.rules.specs.Identifiers.{Id}
-use Rattle.rules.specs.Table.{stateAt, held, heldBy, numbered, isPhaseZero, isDurable, isMarked, isIn, isDone, inState, freed, onHeld, changeHeld, changeNumber}
+use Rattle.rules.specs.Table.{stateAt, held, heldBy, isPhaseZero, isDurable, isMarked, isIn, isDone, inState, freed, onHeld, changeHeld, changeNumber}
 use Rattle.rules.specs.Sound.{isOpen, Sound}
-use Rattle.rules.specs.Signals.{byNumber, signal, toEach, toApp}
+use Rattle.rules.specs.Signals.{byNumber, toEach, toApp}
 use Rattle.rules.specs.Events.{Outcome, hearsAbort, abortOf, lacksRoom, commitSignals, endCommitted, decideOf, startPhaseOne, beginOf, zeroAtOnce, enlistOf, commitOf, endIfDone, endOf, append, follow, react, reactedOf, isOver, askOf, endEach, reenlistedOf, acted, acceptedOf}
 use Rattle.rules.specs.Refusals.{refusalOf}
 use Rattle.rules.proofs.Checks.{refusal-zero-done, refusal-vote, refusal-reply, refusal-ack, refusal-lost}

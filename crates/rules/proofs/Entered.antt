@@ -3,8 +3,8 @@ use Prim.Native.Nat.{ℕ, _≤_, _<_}
 use native.Mathlib.Omega.{arith}
 use mathlib.Core.Path.{_≡_, refl, sym, _∙_, ap, subst}
 use mathlib.Core.Logic.{_⊎_, inl, inr}
-use mathlib.Core.Bool.{Bool, true, false, cond, _&&_}
-use mathlib.Core.List.{List, [], _∷_}
+use mathlib.Core.Bool.{true, false, _&&_}
+use mathlib.Core.List.{List, []}
 use lib.ListN.{length}
 use lib.Dec.{eqb}
 use borrow.Author.Tests.{eqb-true, eqb-false, eq-eqb, ne-eqb}
@@ -12,7 +12,7 @@ use Rattle.lists.specs.Lists.{any}
 use Rattle.lists.specs.Members.{_∈_, Each, Some}
 use Rattle.lists.specs.Places.{putLowest}
 use Rattle.lists.proofs.Tests.{by-test, by-either, no-clash, true-and, and-true, and-false, none-each, each-nothing}
-use Rattle.lists.proofs.Places.{place-first, place-some, place-none, of-put, put-keeps, put-there}
+use Rattle.lists.proofs.Places.{place-first, place-some, place-none, of-put, put-keeps}
 use Rattle.rules.specs.declared.Transaction.{Transaction}
 use Rattle.rules.specs.declared.Enlistment.{Enlistment}
 use Rattle.rules.specs.declared.Table.{Table}
@@ -25,12 +25,12 @@ use Rattle.rules.specs.Kinds as kind
 use Rattle.rules.specs.Marks as mark
 use Rattle.rules.specs.TransactionState as transaction
 use Rattle.rules.specs.EnlistmentState as enlistment
-use Rattle.rules.specs.Identifiers.{Id, sameBytes}
-use Rattle.rules.specs.Table.{noTransaction, isLive, isFree, isVacant, isNamed, isNumbered, isDurable, isDurableOf, durableKind, placeNamed, transactionAt, stateAt, held, withTransactions, withEnlistments}
+use Rattle.rules.specs.Identifiers.{Id}
+use Rattle.rules.specs.Table.{noTransaction, isFree, isVacant, isNamed, isNumbered, isDurableOf, durableKind, placeNamed, transactionAt, stateAt, held, withTransactions, withEnlistments}
 use Rattle.rules.specs.Sound.{isOpen, In, PhaseZero, Volatile, Durable, HoldsWell, Live, Held, Identifier, Number, Sound}
-use Rattle.rules.specs.Events.{beginOf, kindOf, markOf, zeroAtOnce, newEnlistment, enlistOf}
+use Rattle.rules.specs.Events.{beginOf, kindOf, newEnlistment, enlistOf}
 use Rattle.rules.proofs.Identifiers.{equal-same}
-use Rattle.rules.proofs.Kept.{Kept, sound-kept, live-true, true-live, live-place, live-some}
+use Rattle.rules.proofs.Kept.{sound-kept, live-true, true-live, live-place, live-some}
 use Rattle.rules.proofs.Put.{freePlace, at-new, new-holds-nothing, kept-begin, New, kept-enlist}
 use Rattle.rules.proofs.Only.{only-begin, only-enlist, in-held, is-in-held, openAt, room-kept}
 use Rattle.rules.proofs.Parts.{Part}

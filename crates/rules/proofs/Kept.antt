@@ -1,17 +1,17 @@
 -- What every change of the rules keeps: all that makes a table sound but the table of states and the room in the log.
 -- A change does one of three things at a place: nothing, another state, or it empties the place.
-use Prim.Native.Nat.{ℕ, suc, _+_, _≤_}
+use Prim.Native.Nat.{ℕ, _≤_}
 use native.Mathlib.Omega.{arith}
 use mathlib.Core.Path.{_≡_, refl, sym, _∙_, ap, subst}
-use mathlib.Core.Logic.{_⊎_, inl, inr}
+use mathlib.Core.Logic.{_⊎_}
 use mathlib.Core.Bool.{true, _&&_}
-use mathlib.Core.List.{List, [], _∷_, map}
+use mathlib.Core.List.{List, map}
 use lib.ListN.{length}
-use lib.Dec.{eqb, leb}
-use borrow.Author.Tests.{eqb-true, eqb-false, ne-eqb, leb-true, leb-false}
+use lib.Dec.{eqb}
+use borrow.Author.Tests.{eqb-true, eqb-false, ne-eqb}
 use Rattle.lists.specs.Lists.{filter}
 use Rattle.lists.specs.Members.{Each, Apart}
-use Rattle.lists.specs.Places.{atFrom, at, changeAt}
+use Rattle.lists.specs.Places.{at, changeAt}
 use Rattle.lists.proofs.Tests.{by-test, by-either, no-clash, true-and, and-true, false-not, not-true, filter-filter}
 use Rattle.lists.proofs.Places.{IsPlace, place-or-nothing, length-change, at-change-same, at-change-other}
 use Rattle.rules.specs.declared.Transaction.{Transaction}

@@ -16,3 +16,4 @@ pub mod Told
 pub mod Own
 pub mod Used
 pub mod Count
+pub mod Preserved

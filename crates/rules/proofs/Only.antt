@@ -1,8 +1,8 @@
 -- What a change at one place leaves alone: every other transaction and all that it holds. So the count of open ones changes by that place alone.
-use Prim.Native.Nat.{ℕ, suc, _+_, _*_, _≤_}
+use Prim.Native.Nat.{ℕ, _+_, _*_, _≤_}
 use native.Mathlib.Omega.{arith}
 use mathlib.Core.Path.{_≡_, refl, sym, _∙_, ap, subst}
-use mathlib.Core.Bool.{Bool, true, false, cond, false≢true}
+use mathlib.Core.Bool.{Bool, true, false, false≢true}
 use mathlib.Core.List.{List, [], _∷_, map}
 use lib.ListN.{length}
 use lib.Dec.{eqb}
@@ -10,14 +10,14 @@ use borrow.Author.Tests.{eqb-true, eqb-false, eq-eqb, ne-eqb}
 use Rattle.lists.specs.Lists.{any, filter}
 use Rattle.lists.specs.Members.{_∈_, Each, Some}
 use Rattle.lists.specs.Places.{putLowest}
-use Rattle.lists.proofs.Tests.{by-test, no-clash, is-true, true-and, and-true, none-each, each-none, is-false, each-head, each-rest, of-filter, in-filter, of-map, in-map}
+use Rattle.lists.proofs.Tests.{by-test, no-clash, is-true, true-and, and-true, none-each, each-none, each-head, each-rest, of-filter, in-filter, of-map, in-map}
 use Rattle.lists.proofs.Places.{IsPlace, at-below, length-change, length-put, at-change-same, at-change-other, filter-put}
 use Rattle.rules.specs.declared.Transaction.{Transaction}
 use Rattle.rules.specs.declared.Enlistment.{Enlistment}
 use Rattle.rules.specs.declared.Table.{Table}
 use Rattle.rules.specs.Sizes.{recordSize}
 use Rattle.rules.specs.TransactionState as transaction
-use Rattle.rules.specs.Table.{noTransaction, noEnlistment, isFree, isDurable, isVacant, heldBy, held, transactionAt, stateAt, freed, inTransactionState, ended, onHeld, changeHeld, changeTransaction, goTo, emptied, useMore, withTransactions, withEnlistments}
+use Rattle.rules.specs.Table.{noTransaction, isFree, isDurable, isVacant, heldBy, held, transactionAt, stateAt, freed, inTransactionState, ended, onHeld, changeHeld, changeTransaction, goTo, emptied, useMore, withTransactions, withEnlistments}
 use Rattle.rules.specs.Sound.{isOpen, openPlaces, openCount, Live, Held}
 use Rattle.rules.proofs.Along.{many-but-one, oneIf}
 use Rattle.rules.proofs.Kept.{Kept, Keeping, stays, moves, goes, keeping-key, kept-map, kept-end, at-emptied, live-place, live-some}

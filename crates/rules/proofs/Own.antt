@@ -1,15 +1,15 @@
 -- An accepted step is a part of Parts at the place of its own transaction; Re-enlisted is one for each transaction that holds this RM.
 use Prim.Native.Nat.{ℕ, _≤_}
 use native.Mathlib.Omega.{arith}
-use mathlib.Core.Path.{_≡_, refl, sym, _∙_, ap, subst}
+use mathlib.Core.Path.{_≡_, refl, sym, _∙_, subst}
 use mathlib.Core.Logic.{_⊎_, inl, inr}
-use mathlib.Core.Bool.{Bool, true, false, cond, not, _&&_, _||_}
-use mathlib.Core.List.{List, [], _∷_}
+use mathlib.Core.Bool.{true, false, not, _&&_, _||_}
+use mathlib.Core.List.{List}
 use lib.ListN.{length}
 use lib.Dec.{eqb, leb}
 use borrow.Author.Tests.{eqb-true, eqb-false, leb-false}
 use Rattle.lists.specs.Lists.{all, any, none}
-use Rattle.lists.specs.Members.{_∈_, Each, Some}
+use Rattle.lists.specs.Members.{Each, Some}
 use Rattle.lists.proofs.Tests.{by-test, by-either, no-clash, is-false, true-or, false-or, not-false}
 use Rattle.rules.specs.declared.Enlistment.{Enlistment}
 use Rattle.rules.specs.declared.Table.{Table}
@@ -23,9 +23,9 @@ use Rattle.rules.specs.TransactionState as transaction
 use Rattle.rules.specs.EnlistmentState as enlistment
 use Rattle.rules.specs.Sizes.{identifierSize, largestNumber, heldMost}
 use Rattle.rules.specs.Identifiers.{Id, isZero}
-use Rattle.rules.specs.Table.{isFree, isVacant, isDurableOf, durableKind, isNumbered, placeNamed, transactionAt, stateAt, held, numbered}
+use Rattle.rules.specs.Table.{isVacant, isDurableOf, durableKind, placeNamed, transactionAt, stateAt, held, numbered}
 use Rattle.rules.specs.Sound.{In, HoldsWell, Live, Identifier, Sound}
-use Rattle.rules.specs.Events.{Outcome, kindOf, reactedOf, acted, acceptedOf}
+use Rattle.rules.specs.Events.{kindOf, reactedOf, acted, acceptedOf}
 use Rattle.rules.specs.Refusals.{numberIn, isNumberHeld, Check, firstOf, refusalOf}
 use Rattle.rules.proofs.Identifiers.{equal-zero}
 use Rattle.rules.proofs.Checks.{areNumbered, passes-at, firstTwo, checksOfOne, refusal-begin, refusal-enlist, refusal-commit, refusal-rollback, refusal-zero-done, refusal-vote, refusal-reply, refusal-ack, refusal-lost}
@@ -35,7 +35,7 @@ use Rattle.rules.proofs.Kept.{Kept, sound-kept, live-some}
 use Rattle.rules.proofs.Only.{Room}
 use Rattle.rules.proofs.Phases.{commit-part}
 use Rattle.rules.proofs.Reacting.{zeroing-range, Named, is-named, reacted-part}
-use Rattle.rules.proofs.Entered.{named-live, begin-part, Enlistable, enlist-part}
+use Rattle.rules.proofs.Entered.{named-live, begin-part, enlist-part}
 use Rattle.rules.proofs.Told.{ask-part, reenlisted-well, reenlisted-kept, reenlisted-room, reenlisted-capacity, reenlisted-others}
 
 -- what the types of an event say: identifiers have 16 bytes, and a number has 32 bits
@@ -154,14 +154,14 @@ module _ (tb : Table) (e : Event) (log : List ℕ) (s : Sound tb) (y : Typed e) 
   enlist-own n k m q =
       let c = refusal-enlist tb e (length log) n k m q in
       enlist-part p n r k m tb log s (record {
-    live = named-live t tb (eqb-false p 0 (fails _ 3 refl c));
-    state = active-or-zero (stateAt p tb) (fails _ 4 refl c);
-    rm = identifier r (y .rm) (false-or (isZero t) (isZero r) (false-or (isZero t || isZero r) (eqb n 0) (fails _ 2 refl c) .0) .1);
-    number = (eqb-false n 0 (false-or (isZero t || isZero r) (eqb n 0) (fails _ 2 refl c) .1), subst (λ a. numberIn a ≤ largestNumber) q (y .number));
-    not-numbered = false-or (isNumberHeld n tb) (durableKind (kindOf k) && any (isDurableOf r) (held p tb)) (fails _ 5 refl c) .0;
-    no-second = false-or (isNumberHeld n tb) (durableKind (kindOf k) && any (isDurableOf r) (held p tb)) (fails _ 5 refl c) .1;
-    some-left = leb-false heldMost (length (held p tb)) (false-or (none isVacant (tb .enlistments)) (leb heldMost (length (held p tb))) (fails _ 6 refl c) .1);
-  })
+        live = named-live t tb (eqb-false p 0 (fails _ 3 refl c));
+        state = active-or-zero (stateAt p tb) (fails _ 4 refl c);
+        rm = identifier r (y .rm) (false-or (isZero t) (isZero r) (false-or (isZero t || isZero r) (eqb n 0) (fails _ 2 refl c) .0) .1);
+        number = (eqb-false n 0 (false-or (isZero t || isZero r) (eqb n 0) (fails _ 2 refl c) .1), subst (λ a. numberIn a ≤ largestNumber) q (y .number));
+        not-numbered = false-or (isNumberHeld n tb) (durableKind (kindOf k) && any (isDurableOf r) (held p tb)) (fails _ 5 refl c) .0;
+        no-second = false-or (isNumberHeld n tb) (durableKind (kindOf k) && any (isDurableOf r) (held p tb)) (fails _ 5 refl c) .1;
+        some-left = leb-false heldMost (length (held p tb)) (false-or (none isVacant (tb .enlistments)) (leb heldMost (length (held p tb))) (fails _ 6 refl c) .1);
+      })
 
   -- Commit and Rollback name a live transaction
   pub commit-live : e .act ≡ act.Commit → Live (transactionAt p tb)

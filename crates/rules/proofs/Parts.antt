@@ -1,33 +1,28 @@
 -- The parts that steps are made of, each about the transaction at one place p: what is asked of it before, and that it is as it may be after.
-use Prim.Native.Nat.{ℕ, zero, suc, _+_, _*_, _-_, _≤_, _<_}
+use Prim.Native.Nat.{ℕ, _+_, _*_, _≤_, _<_}
 use native.Mathlib.Omega.{arith}
 use mathlib.Core.Path.{_≡_, refl, sym, _∙_, ap, subst}
 use mathlib.Core.Logic.{_⊎_, inl, inr}
-use mathlib.Core.Bool.{Bool, true, false, cond, not, _&&_}
-use mathlib.Core.List.{List, [], _∷_, _++_, map, List·Memᴰ·head}
-use lib.ListN.{length, length-map, length-append}
-use lib.Dec.{eqb, ltb, leb}
-use borrow.Author.Tests.{eqb-true, eqb-false, eq-eqb, ne-eqb, ltb-true, ltb-false, lt-ltb, le-leb}
-use Rattle.lists.specs.Lists.{all, any, none, filter}
-use Rattle.lists.specs.Members.{_∈_, Each, Some}
-use Rattle.lists.specs.Sorting.{sortBy}
-use Rattle.lists.proofs.Tests.{by-test, by-either, no-clash, and-true, true-and, not-true, not-false, all-each, any-some, none-each, each-none, not-all, of-filter, of-map}
-use Rattle.lists.proofs.Sorting.{length-sort, of-sort}
+use mathlib.Core.Bool.{true, false, not}
+use mathlib.Core.List.{List}
+use lib.ListN.{length}
+use borrow.Author.Tests.{eqb-true, eqb-false, lt-ltb, le-leb}
+use Rattle.lists.specs.Lists.{all}
+use Rattle.lists.specs.Members.{Each, Some}
+use Rattle.lists.proofs.Tests.{by-test, by-either, no-clash, and-true, true-and, not-true, any-some, not-all}
 use Rattle.lists.proofs.Places.{IsPlace}
 use Rattle.rules.specs.declared.Enlistment.{Enlistment}
 use Rattle.rules.specs.declared.Table.{Table}
-use Rattle.rules.specs.Sizes.{recordSize, entrySize, identifierSize}
+use Rattle.rules.specs.Sizes.{recordSize, identifierSize}
 use Rattle.rules.specs.TransactionState as transaction
 use Rattle.rules.specs.EnlistmentState as enlistment
 use Rattle.rules.specs.Identifiers.{Id}
-use Rattle.rules.specs.Table.{noTransaction, isPhaseZero, isDurable, isMarked, isIn, isDone, held, transactionAt, stateAt, idAt, inState, inTransactionState, freed, ended, changeHeld, changeTransaction, goTo, emptied, useMore}
-use Rattle.rules.specs.Sound.{isOpen, openPlaces, openCount, In, PhaseZero, Durable, HoldsWell, Live, Held}
-use Rattle.rules.specs.Signals.{byNumber}
-use Rattle.rules.specs.Log.{Entry, Record, entriesBytes, recordBytes, commitSize}
-use Rattle.rules.specs.Events.{Outcome, append, endOf, endIfDone, hearsAbort, abortedOf, abortOf, entryOf, commitRecord, lacksRoom, committedOf, committing, endCommitted, decideOf, startPhaseOne, zeroedOf, commitOf}
-use Rattle.rules.proofs.Along.{oneIf}
-use Rattle.rules.proofs.Kept.{Kept, Keeping, stays, moves, kept-state, kept-use, live-place, live-some}
-use Rattle.rules.proofs.Only.{Only, only-same, only-then, Keeps, only-held, kept-held, only-transaction, only-use, at-goTo, at-emptied-place, at-changed, held-goTo, in-held, used-held, used-transaction, open-use, each-changed, some-changed, only-emptied, kept-emptied, openAt, open-changes, Room, room-kept}
+use Rattle.rules.specs.Table.{noTransaction, isIn, isDone, held, transactionAt, stateAt, idAt, inTransactionState, freed, ended, changeHeld, goTo, emptied, useMore}
+use Rattle.rules.specs.Sound.{isOpen, openCount, In, HoldsWell, Live}
+use Rattle.rules.specs.Log.{Record, recordBytes}
+use Rattle.rules.specs.Events.{append, endOf, endIfDone, hearsAbort, abortedOf, abortOf, committing}
+use Rattle.rules.proofs.Kept.{Kept, stays, moves, kept-state, kept-use, live-place, live-some}
+use Rattle.rules.proofs.Only.{Only, only-same, only-then, Keeps, only-held, kept-held, only-transaction, only-use, at-goTo, at-emptied-place, at-changed, held-goTo, used-held, used-transaction, open-use, each-changed, only-emptied, kept-emptied, openAt, open-changes, Room, room-kept}
 
 -- What a part of a step gives.
 pub record Part (p : ℕ) (tb tb′ : Table) : Type 0 where

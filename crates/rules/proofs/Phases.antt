@@ -1,32 +1,31 @@
 -- Commit, start phase one and decide: each leaves the transaction as the table of states says, since it gives all that is held the same state.
-use Prim.Native.Nat.{ℕ, suc, _+_, _*_, _-_, _≤_, _<_}
+use Prim.Native.Nat.{ℕ, _+_, _*_, _-_, _≤_}
 use native.Mathlib.Omega.{arith}
-use mathlib.Core.Path.{_≡_, refl, sym, _∙_, ap, subst}
+use mathlib.Core.Path.{_≡_, refl, sym, _∙_, ap}
 use mathlib.Core.Logic.{_⊎_, inl, inr}
-use mathlib.Core.Bool.{Bool, true, false, cond, not, _&&_}
-use mathlib.Core.List.{List, [], _∷_, _++_, map, List·Memᴰ·head}
+use mathlib.Core.Bool.{true, false, _&&_}
+use mathlib.Core.List.{List, [], _∷_, map, List·Memᴰ·head}
 use lib.ListN.{length, length-map, length-append}
-use lib.Dec.{eqb, ltb}
+use lib.Dec.{eqb}
 use borrow.Author.Tests.{eqb-true, eqb-false, eq-eqb, ne-eqb, ltb-false}
 use Rattle.lists.specs.Lists.{all, any, none, filter}
 use Rattle.lists.specs.Members.{_∈_, Each, Some}
 use Rattle.lists.specs.Sorting.{sortBy}
-use Rattle.lists.proofs.Tests.{by-test, by-either, true-and, not-true, all-each, any-some, none-each, each-none, each-head, each-rest, of-filter, of-map, each-map}
+use Rattle.lists.proofs.Tests.{by-test, true-and, not-true, all-each, any-some, none-each, each-none, each-head, each-rest, of-filter, each-map}
 use Rattle.lists.proofs.Sorting.{length-sort, of-sort}
 use Rattle.rules.specs.declared.Enlistment.{Enlistment}
 use Rattle.rules.specs.declared.Table.{Table}
 use Rattle.rules.specs.Sizes.{recordSize, entrySize, identifierSize}
 use Rattle.rules.specs.TransactionState as transaction
 use Rattle.rules.specs.EnlistmentState as enlistment
-use Rattle.rules.specs.Identifiers.{Id}
-use Rattle.rules.specs.Table.{isPhaseZero, isDurable, isMarked, isIn, heldBy, held, transactionAt, stateAt, idAt, inState, onHeld, changeHeld}
-use Rattle.rules.specs.Sound.{isOpen, openCount, In, PhaseZero, Durable, HoldsWell, Live, Held}
+use Rattle.rules.specs.Table.{isPhaseZero, isDurable, isMarked, isIn, heldBy, held, transactionAt, idAt, inState, onHeld, changeHeld}
+use Rattle.rules.specs.Sound.{isOpen, openCount, In, PhaseZero, Durable, HoldsWell, Live}
 use Rattle.rules.specs.Signals.{byNumber}
 use Rattle.rules.specs.Log.{Entry, entriesBytes, recordBytes, commitSize}
 use Rattle.rules.specs.Events.{append, entryOf, commitRecord, lacksRoom, committedOf, endCommitted, decideOf, startPhaseOne, zeroedOf, commitOf}
-use Rattle.rules.proofs.Kept.{Kept, Keeping, stays, moves, live-some}
+use Rattle.rules.proofs.Kept.{Kept, stays, moves, live-some}
 use Rattle.rules.proofs.Only.{Keeps, in-held, each-changed, some-changed}
-use Rattle.rules.proofs.Parts.{Part, id-length, end-part, moved, moved-part, written-part, Abortable, abort-part}
+use Rattle.rules.proofs.Parts.{Part, id-length, end-part, moved-part, written-part, Abortable, abort-part}
 
 -- ── one state for all ───────────────────────────────────────────────────────────────────────────────────────────
 

@@ -1,16 +1,16 @@
 -- A new entry in the lowest empty place keeps what every change keeps, if it is like nothing that stands there.
-use Prim.Native.Nat.{ℕ, suc, _≤_, _<_}
+use Prim.Native.Nat.{ℕ, _≤_, _<_}
 use native.Mathlib.Omega.{arith}
-use mathlib.Core.Path.{_≡_, refl, sym, _∙_, ap, subst}
+use mathlib.Core.Path.{_≡_, sym, _∙_, subst}
 use mathlib.Core.Logic.{_⊎_, inl}
 use mathlib.Core.Bool.{Bool, true, false, _&&_}
-use mathlib.Core.List.{List, [], _∷_}
+use mathlib.Core.List.{List, []}
 use lib.ListN.{length}
 use lib.Dec.{eqb}
 use borrow.Author.Tests.{eqb-true, eqb-false, ne-eqb}
-use Rattle.lists.specs.Lists.{any, filter}
-use Rattle.lists.specs.Members.{_∈_, Each}
-use Rattle.lists.specs.Places.{at, changeAt, placeOf, putLowest}
+use Rattle.lists.specs.Lists.{any}
+use Rattle.lists.specs.Members.{Each}
+use Rattle.lists.specs.Places.{at, placeOf, putLowest}
 use Rattle.lists.proofs.Tests.{by-test, by-either, is-false, true-and, true-not, of-filter, filter-filter, filter-none, and-false}
 use Rattle.lists.proofs.Places.{IsFirst, place-first, put-is, of-put, filter-put, at-change-same, at-change-other}
 use Rattle.rules.specs.declared.Transaction.{Transaction}
@@ -18,7 +18,7 @@ use Rattle.rules.specs.declared.Enlistment.{Enlistment}
 use Rattle.rules.specs.declared.Table.{Table}
 use Rattle.rules.specs.Sizes.{heldMost}
 use Rattle.rules.specs.Marks as mark
-use Rattle.rules.specs.Table.{noTransaction, noEnlistment, isLive, isFree, isHeld, isVacant, isDurable, heldBy, held, transactionAt, withTransactions, withEnlistments}
+use Rattle.rules.specs.Table.{noTransaction, isLive, isFree, isHeld, isVacant, isDurable, heldBy, held, transactionAt, withTransactions, withEnlistments}
 use Rattle.rules.specs.Sound.{PhaseZero, Volatile, Durable, Live, Held, Identifier, Number}
 use Rattle.rules.proofs.Along.{put-apart, put-few}
 use Rattle.rules.proofs.Kept.{Kept, live-some, true-live, true-held}

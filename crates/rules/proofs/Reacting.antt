@@ -1,10 +1,10 @@
 -- The events about one enlistment. Its state says in which state its transaction is; then it alone changes, and what follows is a part of Parts or Phases.
-use Prim.Native.Nat.{ℕ, _≤_, _<_}
+use Prim.Native.Nat.{ℕ, _≤_}
 use native.Mathlib.Omega.{arith}
 use mathlib.Core.Path.{_≡_, refl, sym, _∙_, ap, subst}
 use mathlib.Core.Logic.{_⊎_, inl, inr}
-use mathlib.Core.Bool.{Bool, true, false, cond, _||_}
-use mathlib.Core.List.{List, [], _∷_}
+use mathlib.Core.Bool.{true, _||_}
+use mathlib.Core.List.{List}
 use lib.Dec.{eqb}
 use borrow.Author.Tests.{eqb-true, eqb-false, eq-eqb, ne-eqb}
 use Rattle.lists.specs.Lists.{any}
@@ -20,14 +20,13 @@ use Rattle.rules.specs.declared.FollowUp.the-variants as then
 use Rattle.rules.specs.declared.Vote.{Vote}
 use Rattle.rules.specs.declared.Vote.the-variants as vote
 use Rattle.rules.specs.declared.Reply.{Reply}
-use Rattle.rules.specs.Marks as mark
 use Rattle.rules.specs.TransactionState as transaction
 use Rattle.rules.specs.EnlistmentState as enlistment
-use Rattle.rules.specs.Table.{noEnlistment, isNumbered, numbered, isPhaseZero, isHeld, durableKind, isIn, held, transactionAt, stateAt, inState, freed, onNumber, changeHeld, changeNumber}
+use Rattle.rules.specs.Table.{noEnlistment, isNumbered, numbered, isPhaseZero, isHeld, durableKind, isIn, held, transactionAt, stateAt, inState, freed, onNumber, changeNumber}
 use Rattle.rules.specs.Sound.{In, PhaseZero, Durable, HoldsWell, Live, Held, Sound}
 use Rattle.rules.specs.Events.{toVote, toReply, toLost, reactionOf, follow, react, reactedOf}
 use Rattle.rules.proofs.Along.{apart-one}
-use Rattle.rules.proofs.Kept.{Kept, sound-kept, Keeping, stays, moves, goes, live-some, held-true}
+use Rattle.rules.proofs.Kept.{Kept, sound-kept, stays, moves, goes, live-some, held-true}
 use Rattle.rules.proofs.Only.{only-same, Keeps, only-held, kept-held, at-changed, in-held, is-in-held, each-changed, some-changed, room-held}
 use Rattle.rules.proofs.Parts.{Part, part-then, end-part, end-if-done-part, Abortable, abort-part}
 use Rattle.rules.proofs.Phases.{Zeroing, start-part, Voted, Committed, decide-part}

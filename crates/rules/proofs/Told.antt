@@ -1,18 +1,15 @@
 -- Ask and Re-enlisted: an enlistment in 8 becomes 7, or Done; it stays what its transaction may hold, until all are Done and the transaction ends.
-use Prim.Native.Nat.{ℕ, _+_, _≤_}
+use Prim.Native.Nat.{ℕ}
 use native.Mathlib.Omega.{arith}
 use mathlib.Core.Path.{_≡_, refl, sym, _∙_, ap, subst}
-use mathlib.Core.Logic.{_⊎_, inl, inr}
-use mathlib.Core.Bool.{Bool, true, false, cond, _&&_}
+use mathlib.Core.Logic.{inl, inr}
+use mathlib.Core.Bool.{Bool, true, false, _&&_}
 use mathlib.Core.List.{List, [], _∷_, map, List·Memᴰ·head, List·Memᴰ·tail, List·Memᴰ·cases-cons, List·Memᴰ·not-nil}
-use lib.ListN.{length}
 use lib.Dec.{eqb}
-use borrow.Author.Tests.{eqb-true, eqb-false, eq-eqb, ne-eqb}
+use borrow.Author.Tests.{eqb-true, eq-eqb, ne-eqb}
 use Rattle.lists.specs.Lists.{all, any, filter}
 use Rattle.lists.specs.Members.{_∈_, Each, Some}
-use Rattle.lists.specs.Places.{placesWhere}
-use Rattle.lists.specs.Sorting.{sortBy}
-use Rattle.lists.proofs.Tests.{by-test, by-either, no-clash, is-false, true-and, and-true, and-false, all-each, each-head, each-rest, of-map}
+use Rattle.lists.proofs.Tests.{by-test, by-either, is-false, true-and, and-true, and-false, all-each, each-head, each-rest, of-map}
 use Rattle.lists.proofs.Places.{IsPlace, of-places, in-places}
 use Rattle.lists.proofs.Sorting.{in-sort, of-sort}
 use Rattle.rules.specs.declared.Enlistment.{Enlistment}
@@ -20,12 +17,12 @@ use Rattle.rules.specs.declared.Table.{Table}
 use Rattle.rules.specs.TransactionState as transaction
 use Rattle.rules.specs.EnlistmentState as enlistment
 use Rattle.rules.specs.Identifiers.{Id}
-use Rattle.rules.specs.Table.{noTransaction, durableKind, isDurable, isDurableOf, isIn, isDone, heldBy, held, transactionAt, stateAt, inState, changeHeld, withEnlistments}
-use Rattle.rules.specs.Sound.{isOpen, openPlaces, openCount, In, PhaseZero, Durable, HoldsWell, Live, Held, Sound}
+use Rattle.rules.specs.Table.{noTransaction, durableKind, isDurable, isDurableOf, isIn, isDone, heldBy, held, transactionAt, stateAt, changeHeld, withEnlistments}
+use Rattle.rules.specs.Sound.{isOpen, openPlaces, In, PhaseZero, HoldsWell, Live, Sound}
 use Rattle.rules.specs.Events.{endOf, isUndone, isOver, toldAgain, askOf, doneFor, byIdentifier, finished, endEach, reenlistedOf}
 use Rattle.rules.proofs.Along.{as-many}
 use Rattle.rules.proofs.Kept.{Kept, sound-kept, Keeping, stays, moves, kept-map, live-place, live-some}
-use Rattle.rules.proofs.Only.{Only, only-same, Keeps, only-held, kept-held, filter-map-same, at-changed, in-held, is-in-held, each-changed, some-changed, room-held, Room}
+use Rattle.rules.proofs.Only.{only-same, Keeps, only-held, kept-held, filter-map-same, at-changed, in-held, is-in-held, each-changed, some-changed, room-held, Room}
 use Rattle.rules.proofs.Parts.{Part, end-at, end-over, some-undone}
 use Rattle.rules.proofs.Phases.{Committed}
 use Rattle.rules.proofs.Reacting.{zeroing-range, voting-range, aborted-range}
@@ -96,7 +93,7 @@ end-each [] tb log k r h = record { kept = k; room = r; same-capacity = refl; tr
 end-each (p ∷ ps) tb log k r h =
     let one : Part p tb (endOf p tb log .table) = end-at p tb log k (each-head h) in
     let rest = end-each ps (endOf p tb log .table) (endOf p tb log .log) (one .kept) (one .room r)
-        (λ q m. record { low = each-rest h q m .low; high = omega (arith, one .only .as-many, each-rest h q m .high) }) in
+    (λ q m. record { low = each-rest h q m .low; high = omega (arith, one .only .as-many, each-rest h q m .high) }) in
     record {
       kept = rest .kept;
       room = rest .room;

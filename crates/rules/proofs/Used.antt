@@ -10,7 +10,6 @@ use mathlib.Core.List.{List, [], _∷_, _++_, append-nil, append-assoc}
 use lib.ListN.{length, take, drop, set, length-append}
 use lib.Seq.{sets, sets-eq, take-at, drop-at, length-take-le}
 use Rattle.lists.proofs.Tests.{by-test}
-use Rattle.rules.specs.declared.Enlistment.{Enlistment}
 use Rattle.rules.specs.declared.Table.{Table}
 use Rattle.rules.specs.declared.Signal.{Signal}
 use Rattle.rules.specs.declared.Act.{Act}
@@ -25,7 +24,7 @@ use Rattle.rules.specs.EnlistmentState as enlistment
 use Rattle.rules.specs.Sound.{isOpen}
 use Rattle.rules.specs.Table.{stateAt, held, isPhaseZero, isDurable, isMarked, isIn, isDone, changeHeld, changeTransaction, useMore}
 use Rattle.rules.specs.Log.{Record, recordBytes, allBytes, written}
-use Rattle.rules.specs.Events.{Outcome, quietly, saying, append, endOf, endIfDone, abortOf, endCommitted, lacksRoom, decideOf, startPhaseOne, beginOf, enlistOf, commitOf, follow, react, reactedOf, isOver, askOf, endEach, reenlistedOf, acted}
+use Rattle.rules.specs.Events.{Outcome, saying, append, endOf, endIfDone, abortOf, endCommitted, lacksRoom, decideOf, startPhaseOne, beginOf, enlistOf, commitOf, follow, react, reactedOf, isOver, askOf, endEach, reenlistedOf, acted}
 
 -- These records are written behind the used bytes, and no others.
 pub record Writes (tb : Table) (log : List ℕ) (o : Outcome) : Type 0 where
