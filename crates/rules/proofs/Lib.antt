@@ -4,6 +4,8 @@ pub mod Identifiers
 pub mod Soundness
 pub mod Refused
 pub mod Checks
+pub mod Records
+pub mod Frames
 pub mod Along
 pub mod Kept
 pub mod Put
