@@ -3,7 +3,7 @@ use Prim.Native.Nat.{ℕ, _≤_}
 use native.Mathlib.Omega.{arith}
 use mathlib.Core.Path.{_≡_, refl, _∙_}
 use mathlib.Core.Bool.{_&&_}
-use mathlib.Core.List.{List, [], _∷_, map}
+use mathlib.Core.List.{List, [], _∷_}
 use lib.ListN.{length, length-map, length-append}
 use lib.Dec.{eqb}
 use Rattle.lists.specs.Lists.{all, any, none, filter}
@@ -28,11 +28,12 @@ use Rattle.rules.specs.TransactionState as transaction
 use Rattle.rules.specs.EnlistmentState as enlistment
 use Rattle.rules.specs.Sizes.{heldMost, signalsMost}
 use Rattle.rules.specs.Identifiers.{Id}
-use Rattle.rules.specs.Table.{stateAt, held, heldBy, isPhaseZero, isDurable, isMarked, isIn, isDone, inState, freed, onHeld, changeHeld, changeNumber}
+use Rattle.rules.specs.Table.{stateAt, held, isPhaseZero, isDurable, isMarked, isIn, isDone, inState, freed, changeHeld, changeNumber}
 use Rattle.rules.specs.Sound.{isOpen, Sound}
 use Rattle.rules.specs.Signals.{byNumber, toEach, toApp}
 use Rattle.rules.specs.Events.{Outcome, hearsAbort, abortOf, lacksRoom, commitSignals, endCommitted, decideOf, startPhaseOne, beginOf, zeroAtOnce, enlistOf, commitOf, endIfDone, endOf, append, follow, react, reactedOf, isOver, askOf, endEach, reenlistedOf, acted, acceptedOf}
 use Rattle.rules.specs.Refusals.{refusalOf}
+use Rattle.rules.proofs.Frames.{held-shorter}
 use Rattle.rules.proofs.Checks.{refusal-zero-done, refusal-vote, refusal-reply, refusal-ack, refusal-lost}
 use Rattle.rules.proofs.Own.{Typed, commit-live, rollback-live, one-named}
 
@@ -104,24 +105,14 @@ module _ (p : ℕ) (tb : Table) (log : List ℕ) (h : length (held p tb) ≤ hel
   follow-few (then.EndWith a) = omega arith
 
 -- a change makes no more of them
-held-shorter-list : (p : ℕ) (f : Enlistment → Enlistment) (es : List Enlistment) → length (filter (heldBy p) (map (onHeld p f) es)) ≤ length (filter (heldBy p) es)
-unfolding filter
-held-shorter-list p f [] = omega arith
-held-shorter-list p f (e ∷ es) =
-    let h : length (filter (heldBy p) (map (onHeld p f) es)) ≤ length (filter (heldBy p) es) = held-shorter-list p f es in
-    by-test (heldBy p e)
-    (λ t. by-test (heldBy p (f e)) (λ c. rw (t, c) (omega arith)) (λ c. rw (t, c) (omega arith)))
-    (λ t. rw (t, t) h)
-
-held-shorter : (p : ℕ) (f : Enlistment → Enlistment) (tb : Table) → length (held p tb) ≤ heldMost → length (held p (changeHeld p f tb)) ≤ heldMost
-unfolding held changeHeld
-held-shorter p f tb h = omega (arith, h, held-shorter-list p f (tb .enlistments))
+still-few : (p : ℕ) (f : Enlistment → Enlistment) (tb : Table) → length (held p tb) ≤ heldMost → length (held p (changeHeld p f tb)) ≤ heldMost
+still-few p f tb h = omega (arith, h, held-shorter p f tb)
 
 react-few : (x : Reaction) (p n : ℕ) (tb : Table) (log : List ℕ) → length (held p tb) ≤ heldMost → Few (react x p n tb log)
 unfolding react
 react-few reaction.Refused p n tb log h = omega arith
-react-few (reaction.Freed f) p n tb log h = follow-few p (changeNumber p n freed tb) log (held-shorter p _ tb h) f
-react-few (reaction.Becomes s f) p n tb log h = follow-few p (changeNumber p n (inState s) tb) log (held-shorter p _ tb h) f
+react-few (reaction.Freed f) p n tb log h = follow-few p (changeNumber p n freed tb) log (still-few p _ tb h) f
+react-few (reaction.Becomes s f) p n tb log h = follow-few p (changeNumber p n (inState s) tb) log (still-few p _ tb h) f
 
 ask-few : (p : ℕ) (r : Id) (tb : Table) (log : List ℕ) → Few (askOf p r tb log)
 unfolding askOf

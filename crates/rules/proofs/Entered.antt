@@ -12,7 +12,7 @@ use Rattle.lists.specs.Lists.{any}
 use Rattle.lists.specs.Members.{_∈_, Each, Some}
 use Rattle.lists.specs.Places.{putLowest}
 use Rattle.lists.proofs.Tests.{by-test, by-either, no-clash, true-and, and-true, and-false, none-each, each-nothing}
-use Rattle.lists.proofs.Places.{place-first, place-some, place-none, of-put, put-keeps}
+use Rattle.lists.proofs.Places.{place-first, place-none, of-put, put-keeps}
 use Rattle.rules.specs.declared.Transaction.{Transaction}
 use Rattle.rules.specs.declared.Enlistment.{Enlistment}
 use Rattle.rules.specs.declared.Table.{Table}
@@ -29,16 +29,17 @@ use Rattle.rules.specs.Identifiers.{Id}
 use Rattle.rules.specs.Table.{noTransaction, isFree, isVacant, isNamed, isNumbered, isDurableOf, durableKind, placeNamed, transactionAt, stateAt, held, withTransactions, withEnlistments}
 use Rattle.rules.specs.Sound.{isOpen, In, PhaseZero, Volatile, Durable, HoldsWell, Live, Held, Identifier, Number, Sound}
 use Rattle.rules.specs.Events.{beginOf, kindOf, newEnlistment, enlistOf}
+use Rattle.rules.proofs.Frames.{of-held, in-held, named-is, named-found}
 use Rattle.rules.proofs.Identifiers.{equal-same}
 use Rattle.rules.proofs.Kept.{sound-kept, live-true, true-live, live-place, live-some}
 use Rattle.rules.proofs.Put.{freePlace, at-new, new-holds-nothing, kept-begin, New, kept-enlist}
-use Rattle.rules.proofs.Only.{only-begin, only-enlist, in-held, is-in-held, openAt, room-kept}
+use Rattle.rules.proofs.Only.{only-begin, only-enlist, openAt, room-kept}
 use Rattle.rules.proofs.Parts.{Part}
 use Rattle.rules.proofs.Phases.{Zeroing}
 
 -- a transaction that is named stands at its place
 pub named-live : (t : Id) (tb : Table) → (placeNamed t tb ≡ 0 → ⊥) → Live (transactionAt (placeNamed t tb) tb)
-named-live t tb n = true-live (transactionAt (placeNamed t tb) tb) (true-and _ _ (place-first (isNamed t) noTransaction (tb .transactions) (place-some (isNamed t) (tb .transactions) n) .passes) .0)
+named-live t tb n = true-live (transactionAt (placeNamed t tb) tb) (named-is t (transactionAt (placeNamed t tb) tb) (named-found t tb n) .0)
 
 -- ── Begin ───────────────────────────────────────────────────────────────────────────────────────────────────────
 
@@ -83,13 +84,13 @@ module _ (e : Enlistment) (tb : Table) where
 
   each-put : (P : Enlistment → Type 0) → P e → Each P (held (e .holder) tb) → Each P (held (e .holder) after)
   each-put P one rest x m =
-      let (i, h) = in-held (e .holder) after m in
-      by-either (λ q. subst P (sym q) one) (λ q. rest x (is-in-held (e .holder) tb q h)) (of-put isVacant e (tb .enlistments) i)
+      let (i, h) = of-held (e .holder) after m in
+      by-either (λ q. subst P (sym q) one) (λ q. rest x (in-held (e .holder) tb q h)) (of-put isVacant e (tb .enlistments) i)
 
   some-put : {P : Enlistment → Type 0} → Held e → Some P (held (e .holder) tb) → Some P (held (e .holder) after)
   some-put n s =
-      let (i, h) = in-held (e .holder) tb (s .there) in
-      record { it = s .it; there = is-in-held (e .holder) after (put-keeps isVacant e (tb .enlistments) i (ne-eqb _ 0 (λ z. n (sym h ∙ z)))) h; holds = s .holds }
+      let (i, h) = of-held (e .holder) tb (s .there) in
+      record { it = s .it; there = in-held (e .holder) after (put-keeps isVacant e (tb .enlistments) i (ne-eqb _ 0 (λ z. n (sym h ∙ z)))) h; holds = s .holds }
 
 -- what is not refused
 pub record Enlistable (p n : ℕ) (r : Id) (k : Kind) (tb : Table) : Type 0 where
@@ -121,7 +122,7 @@ module _ (p n : ℕ) (r : Id) (k : Kind) (m : Mark) (tb : Table) (log : List ℕ
     where
       some-durable : (f : Enlistment) → f ∈ tb .enlistments → Durable f → p ≡ f .holder → r ≡ f .rm .0 → any (isDurableOf r) (held p tb) ≡ true
       some-durable f i d q c = Rattle.lists.proofs.Tests.some-any (isDurableOf r) (held p tb)
-          (record { it = f; there = is-in-held p tb i (sym q); holds = and-true (eq-eqb (f .kind) kind.durable d) (equal-same (f .rm .0) r (sym c)) })
+          (record { it = f; there = in-held p tb i (sym q); holds = and-true (eq-eqb (f .kind) kind.durable d) (equal-same (f .rm .0) r (sym c)) })
 
   entry-active : stateAt p tb ≡ transaction.active → In enlistment.active entry
   unfolding newEnlistment

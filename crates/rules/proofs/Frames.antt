@@ -59,10 +59,11 @@ held-came p f tb {x} m = go (of-map (onHeld p f) (tb .enlistments) (w .0))
   where
     w : (x ∈ map (onHeld p f) (tb .enlistments)) × (heldBy p x ≡ true)
     w = of-filter (heldBy p) (map (onHeld p f) (tb .enlistments)) m
+
     go : Some (λ e. onHeld p f e ≡ x) (tb .enlistments) → Some (λ e. x ≡ f e) (filter (heldBy p) (tb .enlistments))
     go s = by-test (heldBy p (s .it))
-      (λ b. record { it = s .it; there = in-filter (heldBy p) (tb .enlistments) (s .there) b; holds = sym (rw b at (s .holds)) })
-      (λ b. no-clash (heldBy p x) (w .1) (ap (heldBy p) (sym (rw b at (s .holds))) ∙ b))
+        (λ b. record { it = s .it; there = in-filter (heldBy p) (tb .enlistments) (s .there) b; holds = sym (rw b at (s .holds)) })
+        (λ b. no-clash (heldBy p x) (w .1) (ap (heldBy p) (sym (rw b at (s .holds))) ∙ b))
 
 -- and what it held, it holds as f made it
 pub held-own : (P Q : Enlistment → Type 0) (p : ℕ) (f : Enlistment → Enlistment) (tb : Table)
@@ -71,10 +72,12 @@ unfolding held changeHeld
 held-own P Q p f tb g h = record {
   it = f (h .it);
   there = in-filter (heldBy p) (map (onHeld p f) (tb .enlistments)) (Memᴰ·cast (sym on) (in-map (onHeld p f) (was .0))) (rw (g (h .it) (h .there) (h .holds) .1) (was .1));
-  holds = g (h .it) (h .there) (h .holds) .0 }
+  holds = g (h .it) (h .there) (h .holds) .0;
+}
   where
     was : (h .it ∈ tb .enlistments) × (heldBy p (h .it) ≡ true)
     was = of-filter (heldBy p) (tb .enlistments) (h .there)
+
     on : onHeld p f (h .it) ≡ f (h .it)
     on = rw (was .1) refl
 
@@ -100,8 +103,8 @@ at-outside : (p : ℕ) (xs : List Transaction) → (IsPlace xs p → ⊥) → at
 at-outside p xs h = by-test (eqb p 0)
     (λ e. at-below noTransaction 1 p xs (omega (arith, eqb-true p 0 e)))
     (λ e. at-is noTransaction p xs ∙ rw e (List·getD-eq-default xs noTransaction {n = p - 1} (by-test (leb p (length xs))
-      (λ l. absurd (h (record { low = omega (arith, eqb-false p 0 e); high = leb-true p (length xs) l })))
-      (λ l. omega (arith, eqb-false p 0 e, above l)))))
+    (λ l. absurd (h (record { low = omega (arith, eqb-false p 0 e); high = leb-true p (length xs) l })))
+    (λ l. omega (arith, eqb-false p 0 e, above l)))))
   where
     above : leb p (length xs) ≡ false → p ≤ length xs → ⊥
     above l q = no-clash (leb p (length xs)) (le-leb p (length xs) q) l
@@ -149,9 +152,11 @@ absent-place t tb a = by-test (eqb (placeNamed t tb) 0)
     (λ e. no-clash (isNamed t (transactionAt (placeNamed t tb) tb)) (named-found t tb (eqb-false (placeNamed t tb) 0 e)) (a .nowhere (placeNamed t tb)))
 
 pub none-absent : (t : Id) (tb : Table) → placeNamed t tb ≡ 0 → Absent t tb
-none-absent t tb e = record { nowhere = λ q. by-place q (tb .transactions)
-    (λ h. none-each (isNamed t) (tb .transactions) (place-none (isNamed t) (tb .transactions) e) (transactionAt q tb) (at-member noTransaction (tb .transactions) h))
-    (λ z. ap (isNamed t) z) }
+none-absent t tb e = record {
+  nowhere = λ q. by-place q (tb .transactions)
+      (λ h. none-each (isNamed t) (tb .transactions) (place-none (isNamed t) (tb .transactions) e) (transactionAt q tb) (at-member noTransaction (tb .transactions) h))
+      (λ z. ap (isNamed t) z);
+}
 
 -- ── another name is found where it was ──────────────────────────────────────────────────────────────────────────
 
@@ -166,7 +171,8 @@ same-place u tb tb′ l s = by-test (eqb (placeNamed u tb) 0)
     go f = first-place (isNamed u) noTransaction (tb′ .transactions) (placeNamed u tb) (record {
       is-place = record { low = f .is-place .low; high = rw l (f .is-place .high) };
       passes = s (placeNamed u tb) ∙ f .passes;
-      first = λ q a b. s q ∙ f .first q a b })
+      first = λ q a b. s q ∙ f .first q a b;
+    })
 
 module _ (p : ℕ) (f : Transaction → Transaction) (tb : Table) where
   pub at-own : IsPlace (tb .transactions) p → transactionAt p (changeTransaction p f tb) ≡ f (transactionAt p tb)
@@ -218,9 +224,11 @@ module _ (t : Id) (p s : ℕ) (tb : Table) (at : Stands t p tb) where
 -- ── a transaction ends ──────────────────────────────────────────────────────────────────────────────────────────
 
 pub absent-ended : (t : Id) (p : ℕ) (tb : Table) → ((q : ℕ) → isNamed t (transactionAt q tb) ≡ true → q ≡ p) → Absent t (changeTransaction p ended tb)
-absent-ended t p tb alone = record { nowhere = λ q. by-test (eqb q p)
-    (λ e. rw (eqb-true q p e) (at-changed p ended tb (λ c. ap (isNamed t) c) (λ c. ap (isNamed t) c)))
-    (λ e. is-false (isNamed t (transactionAt q (changeTransaction p ended tb))) (λ n. eqb-false q p e (alone q (ap (isNamed t) (sym (at-other p ended tb q (eqb-false q p e))) ∙ n)))) }
+absent-ended t p tb alone = record {
+  nowhere = λ q. by-test (eqb q p)
+      (λ e. rw (eqb-true q p e) (at-changed p ended tb (λ c. ap (isNamed t) c) (λ c. ap (isNamed t) c)))
+      (λ e. is-false (isNamed t (transactionAt q (changeTransaction p ended tb))) (λ n. eqb-false q p e (alone q (ap (isNamed t) (sym (at-other p ended tb q (eqb-false q p e))) ∙ n))));
+}
 
 -- what is unnamed at a place stays so, whoever ends
 pub unnamed-ended : (t : Id) (p q : ℕ) (tb : Table) → isNamed t (transactionAt q tb) ≡ false → isNamed t (transactionAt q (changeTransaction p ended tb)) ≡ false

@@ -8,17 +8,18 @@ use lib.ListN.{length}
 use lib.Dec.{eqb}
 use borrow.Author.Tests.{eqb-true, eqb-false, eq-eqb, ne-eqb}
 use Rattle.lists.specs.Lists.{any, filter}
-use Rattle.lists.specs.Members.{_∈_, Each, Some}
+use Rattle.lists.specs.Members.{Each, Some}
 use Rattle.lists.specs.Places.{putLowest}
-use Rattle.lists.proofs.Tests.{by-test, no-clash, is-true, true-and, and-true, none-each, each-none, each-head, each-rest, of-filter, in-filter, of-map, in-map}
-use Rattle.lists.proofs.Places.{IsPlace, at-below, length-change, length-put, at-change-same, at-change-other, filter-put}
+use Rattle.lists.proofs.Tests.{by-test, no-clash, is-true, true-and, and-true, none-each, each-none, each-head, each-rest, of-map, in-map}
+use Rattle.lists.proofs.Places.{IsPlace, at-below, length-change, length-put, filter-put}
 use Rattle.rules.specs.declared.Transaction.{Transaction}
 use Rattle.rules.specs.declared.Enlistment.{Enlistment}
 use Rattle.rules.specs.declared.Table.{Table}
 use Rattle.rules.specs.Sizes.{recordSize}
 use Rattle.rules.specs.TransactionState as transaction
-use Rattle.rules.specs.Table.{noTransaction, isFree, isDurable, isVacant, heldBy, held, transactionAt, stateAt, freed, inTransactionState, ended, onHeld, changeHeld, changeTransaction, goTo, emptied, useMore, withTransactions, withEnlistments}
+use Rattle.rules.specs.Table.{noTransaction, isFree, isDurable, isVacant, heldBy, held, transactionAt, stateAt, freed, ended, onHeld, changeHeld, changeTransaction, emptied, useMore, withTransactions, withEnlistments}
 use Rattle.rules.specs.Sound.{isOpen, openPlaces, openCount, Live, Held}
+use Rattle.rules.proofs.Frames.{of-held, in-held, at-other}
 use Rattle.rules.proofs.Along.{many-but-one, oneIf}
 use Rattle.rules.proofs.Kept.{Kept, Keeping, stays, moves, goes, keeping-key, kept-map, kept-end, at-emptied, live-place, live-some}
 use Rattle.rules.proofs.Put.{freePlace, at-others, vacant-by}
@@ -82,7 +83,7 @@ module _ (p : ℕ) (f : Enlistment → Enlistment) (tb : Table) (some : p ≡ 0 
 pub only-transaction : (p : ℕ) (f : Transaction → Transaction) (tb : Table) → Only p tb (changeTransaction p f tb)
 unfolding changeTransaction held
 only-transaction p f tb = record {
-  transactions = λ q n. at-change-other f p q noTransaction (tb .transactions) n;
+  transactions = at-other p f tb;
   enlistments = λ q n z. refl;
   as-many = length-change f 1 p (tb .transactions);
   same-capacity = refl;
@@ -112,10 +113,6 @@ only-enlist e tb = record {
 
 -- ── what stands at the place itself ─────────────────────────────────────────────────────────────────────────────
 
-pub at-goTo : (p s : ℕ) (tb : Table) → Live (transactionAt p tb) → transactionAt p (goTo p s tb) ≡ inTransactionState s (transactionAt p tb)
-unfolding changeTransaction
-at-goTo p s tb l = at-change-same (inTransactionState s) noTransaction (tb .transactions) (live-place p tb l)
-
 pub at-emptied-place : (p : ℕ) (tb : Table) → transactionAt p (emptied p tb) ≡ noTransaction
 unfolding changeTransaction changeHeld
 at-emptied-place p tb = at-emptied noTransaction p (tb .transactions)
@@ -123,10 +120,6 @@ at-emptied-place p tb = at-emptied noTransaction p (tb .transactions)
 pub at-changed : (p q : ℕ) (f : Enlistment → Enlistment) (tb : Table) → transactionAt q (changeHeld p f tb) ≡ transactionAt q tb
 unfolding changeHeld
 at-changed p q f tb = refl
-
-pub held-goTo : (p q : ℕ) (f : Transaction → Transaction) (tb : Table) → held q (changeTransaction p f tb) ≡ held q tb
-unfolding changeTransaction held
-held-goTo p q f tb = refl
 
 pub used-held : (p : ℕ) (f : Enlistment → Enlistment) (tb : Table) → changeHeld p f tb .used ≡ tb .used
 unfolding changeHeld
@@ -136,34 +129,25 @@ pub used-transaction : (p : ℕ) (f : Transaction → Transaction) (tb : Table) 
 unfolding changeTransaction
 used-transaction p f tb = refl
 
--- one that is held
-pub in-held : (p : ℕ) (tb : Table) {e : Enlistment} → e ∈ held p tb → (e ∈ tb .enlistments) × (e .holder ≡ p)
-unfolding held
-in-held p tb {e} m = let o = of-filter (heldBy p) (tb .enlistments) m in (o .0, eqb-true (e .holder) p (o .1))
-
-pub is-in-held : (p : ℕ) (tb : Table) {e : Enlistment} → e ∈ tb .enlistments → e .holder ≡ p → e ∈ held p tb
-unfolding held
-is-in-held p tb {e} m h = in-filter (heldBy p) (tb .enlistments) m (eq-eqb (e .holder) p h)
-
 module _ (p : ℕ) (f : Enlistment → Enlistment) (tb : Table) where
   -- each that is held afterwards is made of one that was held
   pub each-changed : (P : Enlistment → Type 0) → Each (λ e. f e .holder ≡ p → P (f e)) (held p tb) → Each P (held p (changeHeld p f tb))
   unfolding changeHeld held
   each-changed P h x m =
-      let (i, t) = in-held p (changeHeld p f tb) m in
+      let (i, t) = of-held p (changeHeld p f tb) m in
       let o = of-map (onHeld p f) (tb .enlistments) i in
       by-test (heldBy p (o .it))
       (λ c. let q : f (o .it) ≡ x = rw c at (o .holds) in
-      subst P q (h (o .it) (is-in-held p tb (o .there) (eqb-true _ p c)) (ap (λ y. y .holder) q ∙ t)))
+      subst P q (h (o .it) (in-held p tb (o .there) (eqb-true _ p c)) (ap (λ y. y .holder) q ∙ t)))
       (λ c. let q : o .it ≡ x = rw c at (o .holds) in absurd (eqb-false _ p c (ap (λ y. y .holder) q ∙ t)))
 
   pub some-changed : {P : Enlistment → Type 0} → Some (λ e. (f e .holder ≡ p) × P (f e)) (held p tb) → Some P (held p (changeHeld p f tb))
   unfolding changeHeld held
   some-changed s =
-      let (i, h) = in-held p tb (s .there) in
+      let (i, h) = of-held p tb (s .there) in
       record {
         it = f (s .it);
-        there = is-in-held p (changeHeld p f tb) (rw (eq-eqb (s .it .holder) p h) at (in-map (onHeld p f) i)) (s .holds .0);
+        there = in-held p (changeHeld p f tb) (rw (eq-eqb (s .it .holder) p h) at (in-map (onHeld p f) i)) (s .holds .0);
         holds = s .holds .1;
       }
 
@@ -179,7 +163,7 @@ pub kept-emptied : (p : ℕ) (tb : Table) → (p ≡ 0 → ⊥) → Kept tb → 
 kept-emptied p tb n k = kept-end p (kept-held p freed tb n frees k) free
   where
     free : Each (λ e. e .holder ≡ p → ⊥) (changeHeld p freed tb .enlistments)
-    free e m h = each-changed p freed tb (λ e. ⊥) (λ e m h. n (sym h)) e (is-in-held p (changeHeld p freed tb) m h)
+    free e m h = each-changed p freed tb (λ e. ⊥) (λ e m h. n (sym h)) e (in-held p (changeHeld p freed tb) m h)
 
 -- ── open ────────────────────────────────────────────────────────────────────────────────────────────────────────
 
@@ -217,7 +201,7 @@ room-held p f tb l keeps = room-kept p tb (changeHeld p f tb) (only-held p f tb 
 
     closed : any isDurable (held p tb) ≡ false → any isDurable (held p (changeHeld p f tb)) ≡ false
     closed c = each-none isDurable _ (each-changed p f tb (λ e. isDurable e ≡ false) (λ e m h.
-        rw (keeping-key (keeps e (λ q. n (sym (in-held p tb m .1) ∙ q))) (λ q. n (sym h ∙ q)) .kind) (none-each isDurable (held p tb) c e m)))
+        rw (keeping-key (keeps e (λ q. n (sym (of-held p tb m .1) ∙ q))) (λ q. n (sym h ∙ q)) .kind) (none-each isDurable (held p tb) c e m)))
 
     opened : openAt p (changeHeld p f tb) ≡ true → openAt p tb ≡ true
     opened t =

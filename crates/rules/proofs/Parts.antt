@@ -21,8 +21,9 @@ use Rattle.rules.specs.Table.{noTransaction, isIn, isDone, held, transac
 use Rattle.rules.specs.Sound.{isOpen, openCount, In, HoldsWell, Live}
 use Rattle.rules.specs.Log.{Record, recordBytes}
 use Rattle.rules.specs.Events.{append, endOf, endIfDone, hearsAbort, abortedOf, abortOf, committing}
+use Rattle.rules.proofs.Frames.{held-transaction, at-own}
 use Rattle.rules.proofs.Kept.{Kept, stays, moves, kept-state, kept-use, live-place, live-some}
-use Rattle.rules.proofs.Only.{Only, only-same, only-then, Keeps, only-held, kept-held, only-transaction, only-use, at-goTo, at-emptied-place, at-changed, held-goTo, used-held, used-transaction, open-use, each-changed, only-emptied, kept-emptied, openAt, open-changes, Room, room-kept}
+use Rattle.rules.proofs.Only.{Only, only-same, only-then, Keeps, only-held, kept-held, only-transaction, only-use, at-emptied-place, at-changed, used-held, used-transaction, open-use, each-changed, only-emptied, kept-emptied, openAt, open-changes, Room, room-kept}
 
 -- What a part of a step gives.
 pub record Part (p : ℕ) (tb tb′ : Table) : Type 0 where
@@ -114,13 +115,13 @@ module _ (p s : ℕ) (f : Enlistment → Enlistment) (tb : Table) (k : Kept tb) 
   kept-moved n = kept-state p s n (kept-held p f tb (live-some p tb l) keeps k) live-changed
 
   pub state-moved : stateAt p (moved p s f tb) ≡ s
-  state-moved = ap (λ x. x .state) (at-goTo p s (changeHeld p f tb) live-changed)
+  state-moved = ap (λ x. x .state) (at-own p (inTransactionState s) (changeHeld p f tb) (live-place p (changeHeld p f tb) live-changed))
 
   pub live-moved : (s ≡ 0 → ⊥) → Live (transactionAt p (moved p s f tb))
   live-moved n e = n (sym state-moved ∙ e)
 
   pub held-moved : held p (moved p s f tb) ≡ held p (changeHeld p f tb)
-  held-moved = held-goTo p p (inTransactionState s) (changeHeld p f tb)
+  held-moved = held-transaction p p (inTransactionState s) (changeHeld p f tb)
 
   open-moved : openAt p (moved p s f tb) ≡ isOpen s (held p (changeHeld p f tb))
   open-moved = ap (λ z. isOpen z (held p (moved p s f tb))) state-moved ∙ ap (λ hs. isOpen s hs) held-moved

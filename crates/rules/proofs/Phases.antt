@@ -23,13 +23,14 @@ use Rattle.rules.specs.Sound.{isOpen, openCount, In, PhaseZero, Durable,
 use Rattle.rules.specs.Signals.{byNumber}
 use Rattle.rules.specs.Log.{Entry, entriesBytes, recordBytes, commitSize}
 use Rattle.rules.specs.Events.{append, entryOf, commitRecord, lacksRoom, committedOf, endCommitted, decideOf, startPhaseOne, zeroedOf, commitOf}
+use Rattle.rules.proofs.Frames.{of-held}
 use Rattle.rules.proofs.Kept.{Kept, stays, moves, live-some}
-use Rattle.rules.proofs.Only.{Keeps, in-held, each-changed, some-changed}
+use Rattle.rules.proofs.Only.{Keeps, each-changed, some-changed}
 use Rattle.rules.proofs.Parts.{Part, id-length, end-part, moved-part, written-part, Abortable, abort-part}
 
 -- ── one state for all ───────────────────────────────────────────────────────────────────────────────────────────
 
-goes-to : (s : ℕ) → Keeps (inState s)
+pub goes-to : (s : ℕ) → Keeps (inState s)
 goes-to s e h = moves h s refl
 
 held-in-list : (p s : ℕ) (es : List Enlistment) → filter (heldBy p) (map (onHeld p (inState s)) es) ≡ map (inState s) (filter (heldBy p) es)
@@ -68,7 +69,7 @@ module _ (p : ℕ) (tb : Table) (log : List ℕ) (k : Kept tb) (l : Live (transa
           HoldsWell.phase-one refl
           (each-changed p (inState enlistment.preparing) tb (λ e. PhaseZero e → ⊥) (λ e m q. h e m))
           (each-changed p (inState enlistment.preparing) tb _ (λ e m q. inl refl))
-          (some-changed p (inState enlistment.preparing) tb (record { it = s .it; there = s .there; holds = (in-held p tb (s .there) .1, refl) }))
+          (some-changed p (inState enlistment.preparing) tb (record { it = s .it; there = s .there; holds = (of-held p tb (s .there) .1, refl) }))
 
 -- ── Commit ──────────────────────────────────────────────────────────────────────────────────────────────────────
 
@@ -100,7 +101,7 @@ module _ (p : ℕ) (tb : Table) (log : List ℕ) (k : Kept tb) (l : Live (transa
           (some-changed p zeroedOf tb (record {
             it = s .it;
             there = s .there;
-            holds = (zeroed-kind (s .it) .1 ∙ in-held p tb (s .there) .1, zeroed-kind (s .it) .0 ∙ eqb-true _ _ (s .holds));
+            holds = (zeroed-kind (s .it) .1 ∙ of-held p tb (s .there) .1, zeroed-kind (s .it) .0 ∙ eqb-true _ _ (s .holds));
           }))
 
 -- ── Decide ──────────────────────────────────────────────────────────────────────────────────────────────────────
@@ -145,7 +146,7 @@ module _ (p : ℕ) (tb : Table) (k : Kept tb) (l : Live (transactionAt p tb)) wh
 
       each : Each (λ e. length (e .rm) ≡ identifierSize) entries
       each = each-map entryOf (λ e. length (e .rm) ≡ identifierSize) (sortBy byNumber (filter isDurable (held p tb)))
-          (λ e m. let (i, h) = in-held p tb (of-filter isDurable (held p tb) (of-sort byNumber _ m) .0) in
+          (λ e m. let (i, h) = of-held p tb (of-filter isDurable (held p tb) (of-sort byNumber _ m) .0) in
           k .manager-identifiers e i (λ z. live-some p tb l (sym h ∙ z)) .0)
 
       many : length entries ≡ length (filter isDurable (held p tb))
@@ -170,7 +171,7 @@ module _ (p : ℕ) (tb : Table) (k : Kept tb) (l : Live (transactionAt p tb)) wh
           HoldsWell.committing refl
           (each-changed p committedOf tb (λ e. PhaseZero e → ⊥) (λ e m q c. h e m (sym (committed-kind e .0) ∙ c)))
           (each-changed p committedOf tb Committed (λ e m q. committed e (v e m) .0))
-          (some-changed p committedOf tb (record { it = s .it; there = s .there; holds = (committed-kind (s .it) .1 ∙ in-held p tb (s .there) .1, committed (s .it) (v (s .it) (s .there)) .1) }))
+          (some-changed p committedOf tb (record { it = s .it; there = s .there; holds = (committed-kind (s .it) .1 ∙ of-held p tb (s .there) .1, committed (s .it) (v (s .it) (s .there)) .1) }))
 
       fits : commitSize (length (filter isDurable (held p tb))) + recordSize * (1 + openCount tb) ≤ tb .capacity - tb .used
           → tb .used + length (recordBytes (commitRecord (idAt p tb) (held p tb))) + recordSize * (1 + openCount tb) ≤ tb .capacity

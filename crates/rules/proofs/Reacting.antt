@@ -25,11 +25,12 @@ use Rattle.rules.specs.EnlistmentState as enlistment
 use Rattle.rules.specs.Table.{noEnlistment, isNumbered, numbered, isPhaseZero, isHeld, durableKind, isIn, held, transactionAt, stateAt, inState, freed, onNumber, changeNumber}
 use Rattle.rules.specs.Sound.{In, PhaseZero, Durable, HoldsWell, Live, Held, Sound}
 use Rattle.rules.specs.Events.{toVote, toReply, toLost, reactionOf, follow, react, reactedOf}
+use Rattle.rules.proofs.Frames.{of-held, in-held}
 use Rattle.rules.proofs.Along.{apart-one}
-use Rattle.rules.proofs.Kept.{Kept, sound-kept, stays, moves, goes, live-some, held-true}
-use Rattle.rules.proofs.Only.{only-same, Keeps, only-held, kept-held, at-changed, in-held, is-in-held, each-changed, some-changed, room-held}
+use Rattle.rules.proofs.Kept.{Kept, sound-kept, stays, live-some, held-true}
+use Rattle.rules.proofs.Only.{only-same, Keeps, frees, only-held, kept-held, at-changed, each-changed, some-changed, room-held}
 use Rattle.rules.proofs.Parts.{Part, part-then, end-part, end-if-done-part, Abortable, abort-part}
-use Rattle.rules.proofs.Phases.{Zeroing, start-part, Voted, Committed, decide-part}
+use Rattle.rules.proofs.Phases.{goes-to, Zeroing, start-part, Voted, Committed, decide-part}
 
 -- ── which line of the table of states it is ─────────────────────────────────────────────────────────────────────
 
@@ -110,12 +111,6 @@ module _ {s : ℕ} {hs : List Enlistment} (e : Enlistment) (m : e ∈ hs) where
 pub on-number : (n : ℕ) {f : Enlistment → Enlistment} → Keeps f → Keeps (onNumber n f)
 on-number n keeps e h = by-test (isNumbered n e) (λ t. rw t (keeps e h)) (λ t. rw t (stays refl))
 
-goes-to : (s : ℕ) → Keeps (inState s)
-goes-to s e h = moves h s refl
-
-frees : Keeps freed
-frees e h = goes refl
-
 -- the enlistment with number n, and the transaction that holds it
 pub record Named (n : ℕ) (tb : Table) (e : Enlistment) : Type 0 where
   pub here : e ∈ held (e .holder) tb
@@ -126,11 +121,11 @@ pub record Named (n : ℕ) (tb : Table) (e : Enlistment) : Type 0 where
 pub is-named : (n : ℕ) (tb : Table) → Sound tb → (n ≡ 0 → ⊥) → any (isNumbered n) (tb .enlistments) ≡ true → Named n tb (numbered n tb)
 unfolding numbered
 is-named n tb s z t = record {
-  here = is-in-held (e .holder) tb (found .0) refl;
+  here = in-held (e .holder) tb (found .0) refl;
   live = s .holders-live e (found .0) is-held;
   number = of-n;
   alone = λ f m q.
-      let (i, h) = in-held (e .holder) tb m in
+      let (i, h) = of-held (e .holder) tb m in
       apart-one (λ x y. sym) (s .numbers-differ) (in-filter isHeld (tb .enlistments) i (held-true f (λ c. is-held (sym h ∙ c)))) (in-filter isHeld (tb .enlistments) (found .0) (held-true e is-held)) (q ∙ sym of-n);
 }
   where
@@ -250,7 +245,7 @@ module _ (n : ℕ) (tb : Table) (log : List ℕ) (e : Enlistment) (s : Sound tb)
       other x = record {
         it = x .it;
         there = x .there;
-        holds = rw (ne-eqb (x .it .number) n (λ c. omega (arith, z, x .holds, ap (λ g. g .state) (d .alone (x .it) (x .there) c)))) (in-held p tb (x .there) .1, x .holds);
+        holds = rw (ne-eqb (x .it .number) n (λ c. omega (arith, z, x .holds, ap (λ g. g .state) (d .alone (x .it) (x .there) c)))) (of-held p tb (x .there) .1, x .holds);
       }
 
   -- "D in 7: 8"

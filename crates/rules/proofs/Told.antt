@@ -20,9 +20,10 @@ use Rattle.rules.specs.Identifiers.{Id}
 use Rattle.rules.specs.Table.{noTransaction, durableKind, isDurable, isDurableOf, isIn, isDone, heldBy, held, transactionAt, stateAt, changeHeld, withEnlistments}
 use Rattle.rules.specs.Sound.{isOpen, openPlaces, In, PhaseZero, HoldsWell, Live, Sound}
 use Rattle.rules.specs.Events.{endOf, isUndone, isOver, toldAgain, askOf, doneFor, byIdentifier, finished, endEach, reenlistedOf}
+use Rattle.rules.proofs.Frames.{of-held, in-held}
 use Rattle.rules.proofs.Along.{as-many}
 use Rattle.rules.proofs.Kept.{Kept, sound-kept, Keeping, stays, moves, kept-map, live-place, live-some}
-use Rattle.rules.proofs.Only.{only-same, Keeps, only-held, kept-held, filter-map-same, at-changed, in-held, is-in-held, each-changed, some-changed, room-held, Room}
+use Rattle.rules.proofs.Only.{only-same, Keeps, only-held, kept-held, filter-map-same, at-changed, each-changed, some-changed, room-held, Room}
 use Rattle.rules.proofs.Parts.{Part, end-at, end-over, some-undone}
 use Rattle.rules.proofs.Phases.{Committed}
 use Rattle.rules.proofs.Reacting.{zeroing-range, voting-range, aborted-range}
@@ -72,7 +73,7 @@ module _ (r : Id) where
             well = λ m. HoldsWell.committing (ap (λ y. y .state) (at-changed p p (toldAgain r) tb) ∙ c)
                 (each-changed p (toldAgain r) tb (λ e. PhaseZero e → ⊥) (λ e m q k. n- e m (sym (told-key e .0) ∙ k)))
                 (each-changed p (toldAgain r) tb Committed (λ e m q. told-again e (h e m)))
-                (some-changed p (toldAgain r) tb (record { it = x .it; there = x .there; holds = (told-key (x .it) .1 ∙ in-held p tb (x .there) .1, told-undone (x .it) (x .holds)) }));
+                (some-changed p (toldAgain r) tb (record { it = x .it; there = x .there; holds = (told-key (x .it) .1 ∙ of-held p tb (x .there) .1, told-undone (x .it) (x .holds)) }));
             room = room-held p (toldAgain r) tb l told-keeps;
           }
 
@@ -137,15 +138,15 @@ module _ (r : Id) (tb : Table) where
 
   each-done : (q : ℕ) (P : Enlistment → Type 0) → Each (λ e. P (doneFor r e)) (held q tb) → Each P (held q after)
   each-done q P h x m =
-      let (i, b) = in-held q after m in
+      let (i, b) = of-held q after m in
       let o = of-map (doneFor r) (tb .enlistments) i in
-      subst P (o .holds) (h (o .it) (is-in-held q tb (o .there) (sym (done-key (o .it) .1) ∙ ap (λ y. y .holder) (o .holds) ∙ b)))
+      subst P (o .holds) (h (o .it) (in-held q tb (o .there) (sym (done-key (o .it) .1) ∙ ap (λ y. y .holder) (o .holds) ∙ b)))
 
   -- where none becomes Done
   untouched : (q : ℕ) → Each (λ e. doneFor r e ≡ e) (held q tb) → held q after ≡ held q tb
   unfolding held
   untouched q h = filter-map-same (heldBy q) (doneFor r) (tb .enlistments)
-      (λ e m. (ap (λ z. eqb z q) (done-key e .1), λ t. h e (is-in-held q tb m (eqb-true (e .holder) q t))))
+      (λ e m. (ap (λ z. eqb z q) (done-key e .1), λ t. h e (in-held q tb m (eqb-true (e .holder) q t))))
 
   not-finished : (q : ℕ) → Live (transactionAt q tb) → (q ∈ finished after → ⊥) → stateAt q tb ≡ transaction.committing → all isDone (held q after) ≡ false
   unfolding finished

@@ -8,7 +8,7 @@ use lib.Dec.{eqb}
 use Rattle.lists.specs.Lists.{all, any, none, filter}
 use mathlib.Core.List.{List, [], _∷_, _++_, append-nil, append-assoc}
 use lib.ListN.{length, take, drop, set, length-append}
-use lib.Seq.{sets, sets-eq, take-at, drop-at, length-take-le}
+use lib.Seq.{sets, sets-eq, drop-at, length-take-le}
 use Rattle.lists.proofs.Tests.{by-test}
 use Rattle.rules.specs.declared.Table.{Table}
 use Rattle.rules.specs.declared.Signal.{Signal}
@@ -25,6 +25,7 @@ use Rattle.rules.specs.Sound.{isOpen}
 use Rattle.rules.specs.Table.{stateAt, held, isPhaseZero, isDurable, isMarked, isIn, isDone, changeHeld, changeTransaction, useMore}
 use Rattle.rules.specs.Log.{Record, recordBytes, allBytes, written}
 use Rattle.rules.specs.Events.{Outcome, saying, append, endOf, endIfDone, abortOf, endCommitted, lacksRoom, decideOf, startPhaseOne, beginOf, enlistOf, commitOf, follow, react, reactedOf, isOver, askOf, endEach, reenlistedOf, acted}
+use Rattle.rules.proofs.Frames.{written-used}
 
 -- These records are written behind the used bytes, and no others.
 pub record Writes (tb : Table) (log : List ℕ) (o : Outcome) : Type 0 where
@@ -158,4 +159,4 @@ pub written-whole : (u : ℕ) (bs log : List ℕ) → u + length bs ≤ length l
 unfolding written
 written-whole u bs log h =
     let e : length (take u log ++ bs) ≡ u + length bs = length-append (take u log) bs ∙ ap (λ n. n + length bs) (length-take-le u log (omega arith)) in
-    (rw (sets-eq bs log u h) (take-at (take u log ++ bs) (drop (u + length bs) log) (u + length bs) e), rw (sets-eq bs log u h) (drop-at (take u log ++ bs) (drop (u + length bs) log) (u + length bs) e))
+    (written-used u bs log h, rw (sets-eq bs log u h) (drop-at (take u log ++ bs) (drop (u + length bs) log) (u + length bs) e))
