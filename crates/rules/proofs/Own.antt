@@ -46,7 +46,7 @@ pub record Typed (e : Event) : Type 0 where
 
 -- The transaction at place q is the event's own, t and r being the identifiers that it names.
 abbrev pub IsOwn : Act → Id → Id → Table → ℕ → Type 0
--- the place that it takes
+-- the place that it takes, where it stands from then on (Entered.begun-place)
 IsOwn act.Begin t r tb q = q ≡ freePlace tb
 -- the transaction that is named
 IsOwn (act.Enlist n k m) t r tb q = q ≡ placeNamed t tb
@@ -62,12 +62,15 @@ IsOwn (act.Lost n) t r tb q = q ≡ numbered n tb .holder
 -- those that hold a D of this RM
 IsOwn act.Reenlisted t r tb q = Some (λ f. isDurableOf r f ≡ true) (held q tb)
 
+-- the transaction at place q, and what it holds, is as it was
+abbrev pub SameAt : ℕ → Table → Table → Type 0
+SameAt q tb tb′ = (transactionAt q tb′ ≡ transactionAt q tb) × (held q tb′ ≡ held q tb)
+
 -- What an accepted step gives.
 pub record Accepts (a : Act) (t r : Id) (tb tb′ : Table) : Type 0 where
   pub sound : Sound tb′
   pub same-capacity : tb′ .capacity ≡ tb .capacity
-  -- every other transaction, and what it holds, is as it was
-  pub others : (q : ℕ) → (q ≡ 0 → ⊥) → (IsOwn a t r tb q → ⊥) → (transactionAt q tb′ ≡ transactionAt q tb) × (held q tb′ ≡ held q tb)
+  pub others : (q : ℕ) → (q ≡ 0 → ⊥) → (IsOwn a t r tb q → ⊥) → SameAt q tb tb′
 
 sound-of : {tb : Table} → Kept tb → Room tb → ((q : ℕ) → Live (transactionAt q tb) → HoldsWell (stateAt q tb) (held q tb)) → Sound tb
 sound-of k r w = record {

@@ -7,24 +7,25 @@ use mathlib.Core.Bool.{true, _&&_, false≢true}
 use mathlib.Core.List.{List, [], _∷_, _++_, append-nil}
 use lib.ListN.{length, take, drop}
 use lib.Dec.{eqb}
-use borrow.Author.Tests.{eqb-true, eqb-false, eq-eqb}
+use borrow.Author.Tests.{eqb-true, eqb-false, eq-eqb, le-leb}
 use Rattle.lists.specs.Lists.{any}
 use Rattle.lists.specs.Members.{Each}
 use Rattle.lists.proofs.Tests.{by-test, and-true, or-true, each-head, each-rest}
 use Rattle.rules.specs.declared.Table.{Table}
 use Rattle.rules.specs.declared.Event.{Event}
-use Rattle.rules.specs.Sizes.{signalsMost}
+use Rattle.rules.specs.Sizes.{signalsMost, leastCapacity, largestCapacity}
 use Rattle.rules.specs.RefusalNumber as refusal
-use Rattle.rules.specs.Table.{transactionAt, held}
+use Rattle.rules.specs.Table.{freshOf}
 use Rattle.rules.specs.Sound.{Sound, soundOf}
 use Rattle.rules.specs.Log.{Record, allBytes}
 use Rattle.rules.specs.Events.{acceptedOf}
 use Rattle.rules.specs.Refusals.{Check, firstOf, checksOf, refusalOf}
 use Rattle.rules.specs.Step.{Step, doneStep, refusedStep, stepOf}
+use Rattle.rules.proofs.Computing.{computing}
 use Rattle.rules.proofs.Soundness.{sound-sentences, sentences-sound}
 use Rattle.rules.proofs.Refused.{step-done, step-refused, step-refusal}
 use Rattle.rules.proofs.Checks.{accepted}
-use Rattle.rules.proofs.Own.{Typed, IsOwn, Accepts, accepted-step}
+use Rattle.rules.proofs.Own.{Typed, IsOwn, SameAt, Accepts, accepted-step}
 use Rattle.rules.proofs.Used.{Writes, writes, written-whole}
 use Rattle.rules.proofs.Count.{signals-few}
 
@@ -39,8 +40,7 @@ pub record Preserves (tb : Table) (e : Event) (log : List ℕ) (s : Step) : Type
   pub stored : take (s .table .used) (s .log) ≡ take (tb .used) log ++ allBytes records
   pub beyond : drop (s .table .used) (s .log) ≡ drop (s .table .used) log
   -- every transaction but the event's own, and what it holds, is as it was
-  pub others : (q : ℕ) → (q ≡ 0 → ⊥) → (IsOwn (e .act) (e .tx .0) (e .rm .0) tb q → ⊥)
-      → (transactionAt q (s .table) ≡ transactionAt q tb) × (held q (s .table) ≡ held q tb)
+  pub others : (q : ℕ) → (q ≡ 0 → ⊥) → (IsOwn (e .act) (e .tx .0) (e .rm .0) tb q → ⊥) → SameAt q tb (s .table)
   pub few-signals : length (s .signals) ≤ signalsMost
 
 used-fits : {tb : Table} → Sound tb → tb .used ≤ tb .capacity
@@ -115,3 +115,11 @@ pub sound-after : (es : List Event) (tb : Table) (log : List ℕ) → Each Typed
 unfolding tableAfter
 sound-after [] tb log h t = t
 sound-after (e ∷ es) tb log h t = sound-after es (stepOf tb e log .table) (stepOf tb e log .log) (each-rest h) (sound-again tb e log (each-head h) t)
+
+-- as one does that starts on an empty log
+pub fresh-sound : (capacity : ℕ) → leastCapacity ≤ capacity → capacity ≤ largestCapacity → soundOf (freshOf capacity) ≡ true
+unfolding computing
+fresh-sound capacity l h = rw (le-leb leastCapacity capacity l, le-leb capacity largestCapacity h)
+
+pub sound-from-fresh : (capacity : ℕ) → leastCapacity ≤ capacity → capacity ≤ largestCapacity → (es : List Event) (log : List ℕ) → Each Typed es → soundOf (tableAfter es (freshOf capacity) log) ≡ true
+sound-from-fresh capacity l h es log y = sound-after es (freshOf capacity) log y (fresh-sound capacity l h)
