@@ -4,8 +4,8 @@ use native.Mathlib.Omega.{arith}
 use mathlib.Core.Path.{_≡_, refl, sym, _∙_, subst}
 use mathlib.Core.Logic.{_⊎_, inl, inr}
 use mathlib.Core.Bool.{true, false, not, _&&_, _||_}
-use mathlib.Core.List.{List}
-use lib.ListN.{length}
+use mathlib.Core.List.{List, map}
+use lib.ListN.{length, getD}
 use lib.Dec.{eqb, leb}
 use borrow.Author.Tests.{eqb-true, eqb-false, leb-false}
 use Rattle.lists.specs.Lists.{all, any, none}
@@ -132,7 +132,7 @@ active-or-zero s t = by-either (λ c. inl (eqb-true s transaction.active c)) (λ
 identifier : (t : Id) → length t ≡ identifierSize → isZero t ≡ false → Identifier t
 identifier t l z = (l, λ c. no-clash (isZero t) (equal-zero t c) z)
 
-module _ (tb : Table) (e : Event) (log : List ℕ) (s : Sound tb) (y : Typed e) (fine : refusalOf tb e (length log) ≡ refusal.accepted) where
+module _ (tb : Table) (e : Event) (log : List ℕ) (fine : refusalOf tb e (length log) ≡ refusal.accepted) where
   abbrev t : Id
   t = e .tx .0
 
@@ -143,28 +143,8 @@ module _ (tb : Table) (e : Event) (log : List ℕ) (s : Sound tb) (y : Typed e) 
   p = placeNamed t tb
 
   -- the check at index i does not apply
-  fails : (cs : List Check) (i : ℕ) → areNumbered cs ≡ true → refusalOf tb e (length log) ≡ firstOf cs → lib.ListN.getD (mathlib.Core.List.map (λ c. c .applies) cs) i false ≡ false
+  fails : (cs : List Check) (i : ℕ) → areNumbered cs ≡ true → refusalOf tb e (length log) ≡ firstOf cs → getD (map (λ c. c .applies) cs) i false ≡ false
   fails cs i g q = passes-at cs i g (sym q ∙ fine)
-
-  begin-own : e .act ≡ act.Begin → Part (freePlace tb) tb (acted act.Begin t r tb log .table)
-  unfolding acted all
-  begin-own q = begin-part t tb log s (identifier t (y .tx) (fails _ 2 refl (refusal-begin tb e (length log) q)))
-      (eqb-true p 0 (not-false _ (fails _ 3 refl (refusal-begin tb e (length log) q))))
-      (not-false _ (fails _ 4 refl (refusal-begin tb e (length log) q)))
-
-  enlist-own : (n : ℕ) (k : Kind) (m : Mark) → e .act ≡ act.Enlist n k m → Part p tb (acted (act.Enlist n k m) t r tb log .table)
-  unfolding acted all
-  enlist-own n k m q =
-      let c = refusal-enlist tb e (length log) n k m q in
-      enlist-part p n r k m tb log s (record {
-        live = named-live t tb (eqb-false p 0 (fails _ 3 refl c));
-        state = active-or-zero (stateAt p tb) (fails _ 4 refl c);
-        rm = identifier r (y .rm) (false-or (isZero t) (isZero r) (false-or (isZero t || isZero r) (eqb n 0) (fails _ 2 refl c) .0) .1);
-        number = (eqb-false n 0 (false-or (isZero t || isZero r) (eqb n 0) (fails _ 2 refl c) .1), subst (λ a. numberIn a ≤ largestNumber) q (y .number));
-        not-numbered = false-or (isNumberHeld n tb) (durableKind (kindOf k) && any (isDurableOf r) (held p tb)) (fails _ 5 refl c) .0;
-        no-second = false-or (isNumberHeld n tb) (durableKind (kindOf k) && any (isDurableOf r) (held p tb)) (fails _ 5 refl c) .1;
-        some-left = leb-false heldMost (length (held p tb)) (false-or (none isVacant (tb .enlistments)) (leb heldMost (length (held p tb))) (fails _ 6 refl c) .1);
-      })
 
   -- Commit and Rollback name a live transaction
   pub commit-live : e .act ≡ act.Commit → Live (transactionAt p tb)
@@ -175,52 +155,74 @@ module _ (tb : Table) (e : Event) (log : List ℕ) (s : Sound tb) (y : Typed e) 
   unfolding all
   rollback-live q = named-live t tb (eqb-false p 0 (fails _ 3 refl (refusal-rollback tb e (length log) q)))
 
-  commit-own : e .act ≡ act.Commit → Part p tb (acted act.Commit t r tb log .table)
-  unfolding acted all
-  commit-own q =
-      let c = refusal-commit tb e (length log) q in
-      let l : Live (transactionAt p tb) = commit-live q in
-      commit-part p tb log (sound-kept s) l (in-active (s .states p l) (eqb-true (stateAt p tb) transaction.active (not-false _ (fails _ 4 refl c))))
+  module _ (s : Sound tb) where
+    -- an event about the enlistment with number n
+    pub one-named : (n : ℕ) (a : Act) → refusalOf tb e (length log) ≡ firstOf (firstTwo tb (length log) (checksOfOne tb n a)) → Named n tb (numbered n tb)
+    unfolding all
+    one-named n a c = is-named n tb s (eqb-false n 0 (fails _ 2 refl c)) (not-false _ (fails _ 3 refl c))
 
-  rollback-own : e .act ≡ act.Rollback → Part p tb (acted act.Rollback t r tb log .table)
-  unfolding acted all
-  rollback-own q =
-      let c = refusal-rollback tb e (length log) q in
-      let l : Live (transactionAt p tb) = rollback-live q in
-      abort-part p tb log (sound-kept s) l (rolled-back (s .states p l) (by-either (λ z. omega arith) (λ z. omega arith) (active-or-zero (stateAt p tb) (fails _ 4 refl c))))
+    module _ (y : Typed e) where
+      begin-own : e .act ≡ act.Begin → Part (freePlace tb) tb (acted act.Begin t r tb log .table)
+      unfolding acted all
+      begin-own q = begin-part t tb log s (identifier t (y .tx) (fails _ 2 refl (refusal-begin tb e (length log) q)))
+          (eqb-true p 0 (not-false _ (fails _ 3 refl (refusal-begin tb e (length log) q))))
+          (not-false _ (fails _ 4 refl (refusal-begin tb e (length log) q)))
 
-  ask-own : Part p tb (acted act.Ask t r tb log .table)
-  unfolding acted
-  ask-own = ask-part r p tb log s
+      enlist-own : (n : ℕ) (k : Kind) (m : Mark) → e .act ≡ act.Enlist n k m → Part p tb (acted (act.Enlist n k m) t r tb log .table)
+      unfolding acted all
+      enlist-own n k m q =
+          let c = refusal-enlist tb e (length log) n k m q in
+          enlist-part p n r k m tb log s (record {
+            live = named-live t tb (eqb-false p 0 (fails _ 3 refl c));
+            state = active-or-zero (stateAt p tb) (fails _ 4 refl c);
+            rm = identifier r (y .rm) (false-or (isZero t) (isZero r) (false-or (isZero t || isZero r) (eqb n 0) (fails _ 2 refl c) .0) .1);
+            number = (eqb-false n 0 (false-or (isZero t || isZero r) (eqb n 0) (fails _ 2 refl c) .1), subst (λ a. numberIn a ≤ largestNumber) q (y .number));
+            not-numbered = false-or (isNumberHeld n tb) (durableKind (kindOf k) && any (isDurableOf r) (held p tb)) (fails _ 5 refl c) .0;
+            no-second = false-or (isNumberHeld n tb) (durableKind (kindOf k) && any (isDurableOf r) (held p tb)) (fails _ 5 refl c) .1;
+            some-left = leb-false heldMost (length (held p tb)) (false-or (none isVacant (tb .enlistments)) (leb heldMost (length (held p tb))) (fails _ 6 refl c) .1);
+          })
 
-  -- an event about the enlistment with number n
-  pub one-named : (n : ℕ) (a : Act) → refusalOf tb e (length log) ≡ firstOf (firstTwo tb (length log) (checksOfOne tb n a)) → Named n tb (numbered n tb)
-  unfolding all
-  one-named n a c = is-named n tb s (eqb-false n 0 (fails _ 2 refl c)) (not-false _ (fails _ 3 refl c))
+      commit-own : e .act ≡ act.Commit → Part p tb (acted act.Commit t r tb log .table)
+      unfolding acted all
+      commit-own q =
+          let c = refusal-commit tb e (length log) q in
+          let l : Live (transactionAt p tb) = commit-live q in
+          commit-part p tb log (sound-kept s) l (in-active (s .states p l) (eqb-true (stateAt p tb) transaction.active (not-false _ (fails _ 4 refl c))))
 
-  one-own : (n : ℕ) (a : Act) → refusalOf tb e (length log) ≡ firstOf (firstTwo tb (length log) (checksOfOne tb n a)) → Part (numbered n tb .holder) tb (reactedOf n a tb log .table)
-  one-own n a c = reacted-part n a tb log s (one-named n a c)
+      rollback-own : e .act ≡ act.Rollback → Part p tb (acted act.Rollback t r tb log .table)
+      unfolding acted all
+      rollback-own q =
+          let c = refusal-rollback tb e (length log) q in
+          let l : Live (transactionAt p tb) = rollback-live q in
+          abort-part p tb log (sound-kept s) l (rolled-back (s .states p l) (by-either (λ z. omega arith) (λ z. omega arith) (active-or-zero (stateAt p tb) (fails _ 4 refl c))))
 
-  -- ── the step ──────────────────────────────────────────────────────────────────────────────────────────────────
+      ask-own : Part p tb (acted act.Ask t r tb log .table)
+      unfolding acted
+      ask-own = ask-part r p tb log s
 
-  own : (a : Act) → e .act ≡ a → Accepts a t r tb (acted a t r tb log .table)
-  unfolding acted
-  own act.Begin q = at-place s (λ z c. c) (begin-own q)
-  own (act.Enlist n k m) q = at-place s (λ z c. c) (enlist-own n k m q)
-  own act.Commit q = at-place s (λ z c. c) (commit-own q)
-  own (act.ZeroDone n) q = at-place s (λ z c. c) (one-own n (act.ZeroDone n) (refusal-zero-done tb e (length log) n q))
-  own (act.Vote n v) q = at-place s (λ z c. c) (one-own n (act.Vote n v) (refusal-vote tb e (length log) n v q))
-  own act.Rollback q = at-place s (λ z c. c) (rollback-own q)
-  own (act.Reply n a) q = at-place s (λ z c. c) (one-own n (act.Reply n a) (refusal-reply tb e (length log) n a q))
-  own (act.Ack n) q = at-place s (λ z c. c) (one-own n (act.Ack n) (refusal-ack tb e (length log) n q))
-  own (act.Lost n) q = at-place s (λ z c. c) (one-own n (act.Lost n) (refusal-lost tb e (length log) n q))
-  own act.Ask q = at-place s (λ z c. c) ask-own
-  own act.Reenlisted q = record {
-    sound = sound-of (reenlisted-kept r tb log s) (reenlisted-room r tb log s) (reenlisted-well r tb log s);
-    same-capacity = reenlisted-capacity r tb log s;
-    others = λ z n c. reenlisted-others r tb log s z n (λ f m. is-false _ (λ d. c (record { it = f; there = m; holds = d })));
-  }
+      one-own : (n : ℕ) (a : Act) → refusalOf tb e (length log) ≡ firstOf (firstTwo tb (length log) (checksOfOne tb n a)) → Part (numbered n tb .holder) tb (reactedOf n a tb log .table)
+      one-own n a c = reacted-part n a tb log s (one-named n a c)
 
-  -- An accepted step on a sound table gives a sound table, and changes places of its own transaction only.
-  pub accepted-step : Accepts (e .act) t r tb (acceptedOf tb e log .table)
-  accepted-step = own (e .act) refl
+      -- ── the step ──────────────────────────────────────────────────────────────────────────────────────────────────
+
+      own : (a : Act) → e .act ≡ a → Accepts a t r tb (acted a t r tb log .table)
+      unfolding acted
+      own act.Begin q = at-place s (λ z c. c) (begin-own q)
+      own (act.Enlist n k m) q = at-place s (λ z c. c) (enlist-own n k m q)
+      own act.Commit q = at-place s (λ z c. c) (commit-own q)
+      own (act.ZeroDone n) q = at-place s (λ z c. c) (one-own n (act.ZeroDone n) (refusal-zero-done tb e (length log) n q))
+      own (act.Vote n v) q = at-place s (λ z c. c) (one-own n (act.Vote n v) (refusal-vote tb e (length log) n v q))
+      own act.Rollback q = at-place s (λ z c. c) (rollback-own q)
+      own (act.Reply n a) q = at-place s (λ z c. c) (one-own n (act.Reply n a) (refusal-reply tb e (length log) n a q))
+      own (act.Ack n) q = at-place s (λ z c. c) (one-own n (act.Ack n) (refusal-ack tb e (length log) n q))
+      own (act.Lost n) q = at-place s (λ z c. c) (one-own n (act.Lost n) (refusal-lost tb e (length log) n q))
+      own act.Ask q = at-place s (λ z c. c) ask-own
+      own act.Reenlisted q = record {
+        sound = sound-of (reenlisted-kept r tb log s) (reenlisted-room r tb log s) (reenlisted-well r tb log s);
+        same-capacity = reenlisted-capacity r tb log s;
+        others = λ z n c. reenlisted-others r tb log s z n (λ f m. is-false _ (λ d. c (record { it = f; there = m; holds = d })));
+      }
+
+      -- An accepted step on a sound table gives a sound table, and changes places of its own transaction only.
+      pub accepted-step : Accepts (e .act) t r tb (acceptedOf tb e log .table)
+      accepted-step = own (e .act) refl

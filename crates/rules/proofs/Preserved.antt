@@ -43,6 +43,13 @@ pub record Preserves (tb : Table) (e : Event) (log : List ℕ) (s : Step) : Type
   pub others : (q : ℕ) → (q ≡ 0 → ⊥) → (IsOwn (e .act) (e .tx .0) (e .rm .0) tb q → ⊥) → SameAt q tb (s .table)
   pub few-signals : length (s .signals) ≤ signalsMost
 
+-- what holds of a step that is done, and of one that is refused, holds of each step
+by-step : (P : Step → Type 0) (tb : Table) (e : Event) (log : List ℕ) → (refusalOf tb e (length log) ≡ refusal.accepted → P (doneStep (acceptedOf tb e log)))
+    → ((why : ℕ) → P (refusedStep why tb log)) → P (stepOf tb e log)
+by-step P tb e log done refused = by-test (eqb (refusalOf tb e (length log)) refusal.accepted)
+    (λ t. let fine : refusalOf tb e (length log) ≡ refusal.accepted = eqb-true _ _ t in rw (step-done tb e log fine) (done fine))
+    (λ t. rw (step-refused tb e log (eqb-false _ _ t)) (refused (refusalOf tb e (length log))))
+
 used-fits : {tb : Table} → Sound tb → tb .used ≤ tb .capacity
 used-fits s = omega (arith, s .room)
 
@@ -63,7 +70,7 @@ module _ (tb : Table) (e : Event) (log : List ℕ) (s : Sound tb) (y : Typed e) 
 
   done-preserves : refusalOf tb e (length log) ≡ refusal.accepted → Preserves tb e log (doneStep (acceptedOf tb e log))
   done-preserves fine =
-      let a : Accepts (e .act) (e .tx .0) (e .rm .0) tb (acceptedOf tb e log .table) = accepted-step tb e log s y fine in
+      let a : Accepts (e .act) (e .tx .0) (e .rm .0) tb (acceptedOf tb e log .table) = accepted-step tb e log fine s y in
       let w : Writes tb log (acceptedOf tb e log) = writes (e .act) (e .tx .0) (e .rm .0) tb log in
       let b = written-whole (tb .used) (allBytes (w .records)) log (omega (arith, w .used, used-fits (a .sound), a .same-capacity, accepted tb e (length log) fine .log-length)) in
       record {
@@ -75,17 +82,19 @@ module _ (tb : Table) (e : Event) (log : List ℕ) (s : Sound tb) (y : Typed e) 
         stored = rw (w .used, w .log-is) (b .0);
         beyond = rw (w .used, w .log-is) (b .1);
         others = a .others;
-        few-signals = signals-few tb e log s y fine;
+        few-signals = signals-few tb e log fine s;
       }
 
   pub step-preserves : Preserves tb e log (stepOf tb e log)
-  step-preserves = by-test (eqb (refusalOf tb e (length log)) refusal.accepted)
-      (λ t. let fine : refusalOf tb e (length log) ≡ refusal.accepted = eqb-true _ _ t in rw (step-done tb e log fine) (done-preserves fine))
-      (λ t. rw (step-refused tb e log (eqb-false _ _ t)) (refused-preserves (refusalOf tb e (length log))))
+  step-preserves = by-step (Preserves tb e log) tb e log done-preserves refused-preserves
 
-  -- "used" never falls
-  pub used-grows : tb .used ≤ stepOf tb e log .table .used
-  used-grows = omega (arith, step-preserves .used)
+-- Two of these hold whatever the event is: used never falls, of any table;
+pub used-grows : (tb : Table) (e : Event) (log : List ℕ) → tb .used ≤ stepOf tb e log .table .used
+used-grows tb e log = by-step (λ s. tb .used ≤ s .table .used) tb e log (λ fine. omega (arith, writes (e .act) (e .tx .0) (e .rm .0) tb log .used)) (λ why. omega arith)
+
+-- and at most 17 signals, of a sound one.
+pub step-few-signals : (tb : Table) (e : Event) (log : List ℕ) → Sound tb → length (stepOf tb e log .signals) ≤ signalsMost
+step-few-signals tb e log s = by-step (λ s. length (s .signals) ≤ signalsMost) tb e log (λ fine. signals-few tb e log fine s) (λ why. omega arith)
 
 -- ── a coordinator that starts sound ─────────────────────────────────────────────────────────────────────────────
 

@@ -194,8 +194,8 @@ module _ (n : ℕ) (tb : Table) (log : List ℕ) (e : Enlistment) (s : Sound tb)
   vote-part : (f : Enlistment → Enlistment) → Keeps f → In enlistment.preparing e → (f e .holder ≡ p → (f e .kind ≡ e .kind) × Voted (f e)) → Part p tb (follow then.Decide p (changeNumber p n f tb) log .table)
   unfolding follow
   vote-part f keeps z one =
-      let (q, n-, h, x) = in-phase-one e (d .here) well (omega arith) (omega arith) in
-      let nots : Each (λ g. PhaseZero g → ⊥) (held p (changeNumber p n f tb)) = each-one f (λ g. PhaseZero g → ⊥) (λ c k. n- e (d .here) (sym (one c .0) ∙ k)) n- in
+      let (q, no-p, h, x) = in-phase-one e (d .here) well (omega arith) (omega arith) in
+      let nots : Each (λ g. PhaseZero g → ⊥) (held p (changeNumber p n f tb)) = each-one f (λ g. PhaseZero g → ⊥) (λ c k. no-p e (d .here) (sym (one c .0) ∙ k)) no-p in
       let votes : Each Voting (held p (changeNumber p n f tb)) = each-one f Voting (λ c. inr (one c .1)) h in
       by-test (any (isIn enlistment.preparing) (held p (changeNumber p n f tb)))
       (λ t. let y = any-some (isIn enlistment.preparing) _ t in
@@ -221,8 +221,8 @@ module _ (n : ℕ) (tb : Table) (log : List ℕ) (e : Enlistment) (s : Sound tb)
       committing : In enlistment.toldCommit e → Some (λ g. In enlistment.done g → ⊥) (held p (changeNumber p n (inState enlistment.done) tb))
           → HoldsWell (stateAt p tb) (held p (changeNumber p n (inState enlistment.done) tb))
       committing z x =
-          let (q, n-, h) = in-committing e (d .here) well z in
-          HoldsWell.committing q (each-one (inState enlistment.done) (λ g. PhaseZero g → ⊥) (λ c. n- e (d .here)) n-) (each-one (inState enlistment.done) Committed (λ c. inr (inr refl)) h) x
+          let (q, no-p, h) = in-committing e (d .here) well z in
+          HoldsWell.committing q (each-one (inState enlistment.done) (λ g. PhaseZero g → ⊥) (λ c. no-p e (d .here)) no-p) (each-one (inState enlistment.done) Committed (λ c. inr (inr refl)) h) x
 
       aborting : In enlistment.toldAbort e → Some (λ g. In enlistment.done g → ⊥) (held p (changeNumber p n (inState enlistment.done) tb))
           → HoldsWell (stateAt p tb) (held p (changeNumber p n (inState enlistment.done) tb))
@@ -234,9 +234,9 @@ module _ (n : ℕ) (tb : Table) (log : List ℕ) (e : Enlistment) (s : Sound tb)
   -- "D in 4: 5": another one is still Preparing
   lost-prepared : In enlistment.prepared e → Durable e → Part p tb (changeNumber p n (inState enlistment.preparedLost) tb)
   lost-prepared z k =
-      let (q, n-, h, x) = in-phase-one e (d .here) well (omega arith) (omega arith) in
+      let (q, no-p, h, x) = in-phase-one e (d .here) well (omega arith) (omega arith) in
       quiet-part (inState enlistment.preparedLost) (goes-to enlistment.preparedLost)
-      (HoldsWell.phase-one q (each-one (inState enlistment.preparedLost) (λ g. PhaseZero g → ⊥) (λ c. n- e (d .here)) n-)
+      (HoldsWell.phase-one q (each-one (inState enlistment.preparedLost) (λ g. PhaseZero g → ⊥) (λ c. no-p e (d .here)) no-p)
       (each-one (inState enlistment.preparedLost) Voting (λ c. inr (inr (refl, k))) h)
       (some-changed p (onNumber n (inState enlistment.preparedLost)) tb (other x)))
     where
@@ -251,9 +251,9 @@ module _ (n : ℕ) (tb : Table) (log : List ℕ) (e : Enlistment) (s : Sound tb)
   -- "D in 7: 8"
   lost-told : In enlistment.toldCommit e → Durable e → Part p tb (changeNumber p n (inState enlistment.failedToNotify) tb)
   lost-told z k =
-      let (q, n-, h) = in-committing e (d .here) well z in
+      let (q, no-p, h) = in-committing e (d .here) well z in
       quiet-part (inState enlistment.failedToNotify) (goes-to enlistment.failedToNotify)
-      (HoldsWell.committing q (each-one (inState enlistment.failedToNotify) (λ g. PhaseZero g → ⊥) (λ c. n- e (d .here)) n-)
+      (HoldsWell.committing q (each-one (inState enlistment.failedToNotify) (λ g. PhaseZero g → ⊥) (λ c. no-p e (d .here)) no-p)
       (each-one (inState enlistment.failedToNotify) Committed (λ c. inr (inl (refl, k))) h)
       (some-changed p (onNumber n (inState enlistment.failedToNotify)) tb (record { it = e; there = d .here; holds = itself })))
     where

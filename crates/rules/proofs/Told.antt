@@ -66,12 +66,12 @@ module _ (r : Id) where
       told c =
           let l : Live (transactionAt p tb) = λ z. omega arith in
           let n : p ≡ 0 → ⊥ = live-some p tb l in
-          let (n-, h, x) = in-committing (s .states p l) c in
+          let (no-p, h, x) = in-committing (s .states p l) c in
           record {
             only = only-held p (toldAgain r) tb n told-keeps;
             kept = kept-held p (toldAgain r) tb n told-keeps (sound-kept s);
             well = λ m. HoldsWell.committing (ap (λ y. y .state) (at-changed p p (toldAgain r) tb) ∙ c)
-                (each-changed p (toldAgain r) tb (λ e. PhaseZero e → ⊥) (λ e m q k. n- e m (sym (told-key e .0) ∙ k)))
+                (each-changed p (toldAgain r) tb (λ e. PhaseZero e → ⊥) (λ e m q k. no-p e m (sym (told-key e .0) ∙ k)))
                 (each-changed p (toldAgain r) tb Committed (λ e m q. told-again e (h e m)))
                 (some-changed p (toldAgain r) tb (record { it = x .it; there = x .there; holds = (told-key (x .it) .1 ∙ of-held p tb (x .there) .1, told-undone (x .it) (x .holds)) }));
             room = room-held p (toldAgain r) tb l told-keeps;
