@@ -1,25 +1,25 @@
 -- What the verbs of a table leave alone: a change at the place p is none at any other place, and of a name that does not stand at p
 -- nothing is seen. Each law looks place by place.
-use Prim.Native.Nat.{ℕ, _+_, _-_, _≤_, _<_}
+use Prim.Native.Nat.{ℕ, _+_, _-_, _≤_}
 use native.Mathlib.Omega.{arith}
 use mathlib.Core.Path.{_≡_, refl, sym, _∙_, ap}
 use mathlib.Core.Logic.{_⊎_, inl, inr}
-use mathlib.Core.Bool.{Bool, true, false, cond, not, _&&_, true≢false, false≢true}
-use mathlib.Core.List.{List, [], _∷_, _++_, map, List·Memᴰ·head, List·Memᴰ·tail, Memᴰ·cast}
-use lib.Dec.{eqb, leb, ltb}
+use mathlib.Core.Bool.{true, false, cond, _&&_, false≢true}
+use mathlib.Core.List.{List, [], _∷_, _++_, map, Memᴰ·cast}
+use lib.Dec.{eqb, leb}
 use lib.ListN.{length, take, drop, List·getD-eq-default, length-append}
 use lib.Seq.{take-at, length-take-le, length-sets, sets-eq}
 use borrow.Author.Tests.{eqb-true, eqb-false, eq-eqb, ne-eqb, leb-true, le-leb}
-use Rattle.lists.specs.Members.{_∈_, Each, Some, Apart, nothing, more}
-use Rattle.lists.specs.Lists.{any, filter}
-use Rattle.lists.specs.Places.{placeOf, atFrom, at, changeAt}
-use Rattle.lists.proofs.Tests.{by-test, by-either, no-clash, is-false, true-and, not-true, not-false, in-filter, of-filter, in-map, of-map, none-each, some-any}
-use Rattle.lists.proofs.Places.{IsPlace, IsFirst, at-is, at-below, at-member, change-below, change-beyond, length-change, at-change-same, at-change-other, place-first, first-place, place-none, place-some}
+use Rattle.lists.specs.Members.{_∈_, Some}
+use Rattle.lists.specs.Lists.{filter}
+use Rattle.lists.specs.Places.{at, changeAt}
+use Rattle.lists.proofs.Tests.{by-test, no-clash, is-false, true-and, in-filter, of-filter, in-map, of-map, none-each, some-any}
+use Rattle.lists.proofs.Places.{IsPlace, IsFirst, at-is, at-below, at-member, length-change, at-change-same, at-change-other, place-first, first-place, place-none, place-some}
 use Rattle.rules.specs.declared.Transaction.{Transaction}
 use Rattle.rules.specs.declared.Enlistment.{Enlistment}
 use Rattle.rules.specs.declared.Table.{Table}
 use Rattle.rules.specs.Identifiers.{Id, sameBytes}
-use Rattle.rules.specs.Table.{noTransaction, isLive, isNamed, placeNamed, transactionAt, stateAt, idAt, heldBy, held, onHeld, changeHeld, changeTransaction, goTo, inTransactionState, freed, ended, emptied, useMore}
+use Rattle.rules.specs.Table.{noTransaction, isLive, isNamed, placeNamed, transactionAt, stateAt, heldBy, held, onHeld, changeHeld, changeTransaction, goTo, inTransactionState, ended}
 use Rattle.rules.specs.Log.{written}
 use Rattle.rules.proofs.Identifiers.{same-refl, same-equal}
 
