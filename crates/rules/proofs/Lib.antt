@@ -6,3 +6,17 @@ pub mod Soundness
 pub mod Refused
 pub mod Checks
 pub mod Records
+pub mod Frames
+pub mod Along
+pub mod Kept
+pub mod Put
+pub mod Only
+pub mod Parts
+pub mod Phases
+pub mod Reacting
+pub mod Entered
+pub mod Told
+pub mod Own
+pub mod Used
+pub mod Count
+pub mod Preserved
