@@ -6,7 +6,6 @@ pub mod Soundness
 pub mod Refused
 pub mod Checks
 pub mod Records
-pub mod Frames
 pub mod Along
 pub mod Kept
 pub mod Put
