@@ -11,21 +11,22 @@ use borrow.Author.Tests.{eqb-true, eqb-false, eq-eqb, ne-eqb, ltb-false}
 use Rattle.lists.specs.Lists.{all, any, none, filter}
 use Rattle.lists.specs.Members.{_∈_, Each, Some}
 use Rattle.lists.specs.Sorting.{sortBy}
-use Rattle.lists.proofs.Tests.{by-test, true-and, not-true, all-each, any-some, none-each, each-none, each-head, each-rest, of-filter, each-map}
+use Rattle.lists.proofs.Tests.{by-test, true-and, not-true, all-each, any-some, none-each, each-none, of-filter, each-map}
 use Rattle.lists.proofs.Sorting.{length-sort, of-sort}
 use Rattle.rules.specs.declared.Enlistment.{Enlistment}
 use Rattle.rules.specs.declared.Table.{Table}
-use Rattle.rules.specs.Sizes.{recordSize, entrySize, identifierSize}
+use Rattle.rules.specs.Sizes.{recordSize, identifierSize}
 use Rattle.rules.specs.TransactionState as transaction
 use Rattle.rules.specs.EnlistmentState as enlistment
 use Rattle.rules.specs.Table.{isPhaseZero, isDurable, isMarked, isIn, heldBy, held, transactionAt, idAt, inState, onHeld, changeHeld}
 use Rattle.rules.specs.Sound.{isOpen, openCount, In, PhaseZero, Durable, HoldsWell, Live}
 use Rattle.rules.specs.Signals.{byNumber}
-use Rattle.rules.specs.Log.{Entry, entriesBytes, recordBytes, commitSize}
+use Rattle.rules.specs.Log.{Entry, recordBytes, commitSize}
 use Rattle.rules.specs.Events.{append, entryOf, commitRecord, lacksRoom, committedOf, endCommitted, decideOf, startPhaseOne, zeroedOf, commitOf}
 use Rattle.rules.proofs.Frames.{of-held}
 use Rattle.rules.proofs.Kept.{Kept, stays, moves, live-some}
 use Rattle.rules.proofs.Only.{Keeps, each-changed, some-changed}
+use Rattle.rules.proofs.Records.{entries-length}
 use Rattle.rules.proofs.Parts.{Part, id-length, end-part, moved-part, written-part, Abortable, abort-part}
 
 -- ── one state for all ───────────────────────────────────────────────────────────────────────────────────────────
@@ -130,11 +131,6 @@ committed : (e : Enlistment) → Voted e → Committed (committedOf e) × (In en
 unfolding committedOf
 committed e (inl q) = rw (eq-eqb (e .state) enlistment.prepared q) (inl refl, λ c. omega arith)
 committed e (inr q) = rw (ne-eqb (e .state) enlistment.prepared (λ c. omega arith), eq-eqb (e .state) enlistment.preparedLost (q .0)) (inr (inl (refl, q .1)), λ c. omega arith)
-
-entries-length : (es : List Entry) → Each (λ e. length (e .rm) ≡ identifierSize) es → length (entriesBytes es) ≡ entrySize * length es
-unfolding entriesBytes
-entries-length [] h = refl
-entries-length (e ∷ es) h = simp length-append (omega (arith, each-head h, entries-length es (each-rest h)))
 
 module _ (p : ℕ) (tb : Table) (k : Kept tb) (l : Live (transactionAt p tb)) where
   record-length : length (recordBytes (commitRecord (idAt p tb) (held p tb))) ≡ commitSize (length (filter isDurable (held p tb)))
