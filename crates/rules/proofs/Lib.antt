@@ -1,1 +1,4 @@
 pub mod Computing
+pub mod Bytes
+pub mod Identifiers
+pub mod MessageLaws
