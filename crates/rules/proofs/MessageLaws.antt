@@ -1,38 +1,273 @@
--- Reader and writer of messages are each other's. A message is its six fields of four bytes and its payload, and each of these is the bytes
--- that the definition of the other takes from the same place.
-use Prim.Native.Nat.{ℕ, _+_, _≤_, _<_}
+-- Reader and writer of messages are each other's. A message is its six fields of four bytes and its payload, and the one takes each of these
+-- from the place where the other puts it.
+use Prim.Native.Nat.{ℕ, zero, suc, _+_, _≤_, _<_}
 use native.Mathlib.Omega.{arith}
 use mathlib.Core.Path.{_≡_, refl, sym, _∙_, ap}
 use mathlib.Core.Logic.{_⊎_, inl, inr}
 use mathlib.Core.Bool.{Bool, true, false, cond, _&&_, _||_}
 use mathlib.Core.List.{List, [], _∷_, _++_}
 use lib.Dec.{eqb, leb}
-use lib.ListN.{length, take, drop, getD, length-append, length-drop}
-use borrow.Author.Tests.{eqb-true, eq-eqb, leb-true, le-leb}
+use lib.ListN.{length, getD, take, drop, length-append, length-drop, take-append-drop, drop-of-length-le}
+use lib.Seq.{length-take-le, take-all, take-at, drop-at, drop-drop}
+use borrow.Author.Tests.{eqb-true, eqb-false, eq-eqb, ne-eqb, leb-true, le-leb}
 use Rattle.lists.specs.Lists.{all, any, every, firstOr}
 use Rattle.lists.specs.Members.{_∈_, Each}
-use Rattle.lists.proofs.Tests.{by-test, by-either, true-and, or-true, true-or, is-false, all-each, first-passes, first-none, Holding, that-is-all, _also_, every-holding, holding-every}
+use Rattle.lists.proofs.Tests.{by-test, by-either, true-and, true-or, all-each, first-passes, first-none, each-nothing, each-more, each-head, each-rest, Holding, that-is-all, _also_, every-holding, holding-every}
 use Rattle.rules.specs.declared.Message.{Message}
-use Rattle.rules.specs.declared.Read.{Read}
-use Rattle.rules.specs.MessageType as message
+use Rattle.rules.specs.MessageType.{tag}
 use Rattle.rules.specs.Sizes.{identifierSize, messageHeaderSize, largestNumber}
 use Rattle.rules.specs.Identifiers.{Id, zeroId, sameBytes}
 use Rattle.rules.specs.Log.{low4, number4}
-use Rattle.rules.specs.Messages
+use Rattle.rules.specs.Messages.{MessageType, messageType, messageTypes, managerPayload, transactionPayload, isType, payloadOf, hasTransaction, hasManager, lengthOf, fieldAt, tagIn, masterIn, connectionIn, typeIn, payloadLengthIn, reservedIn, identifierIn, whereThere, isMessage, messageIn, noMessage, readOf, isWritable, payloadBytes, messageBytes, fits, writeOf}
 use Rattle.rules.proofs.Bytes.{number-of-low, low-of-number}
 use Rattle.rules.proofs.Identifiers.{same-equal, equal-same}
 
--- ── the table of types: one test of each row, computed, and the law that a type's payload length is that of a row ────
+-- ── the table of types: a test of its rows, computed, and the law that a payload length is that of a row ────────────
 
-sized : Messages.MessageType → Bool
-sized m = eqb (m .payload) Messages.managerPayload || (eqb (m .payload) Messages.transactionPayload || eqb (m .payload) 0)
+sized : MessageType → Bool
+sized m = eqb (m .payload) managerPayload || (eqb (m .payload) transactionPayload || eqb (m .payload) 0)
 
-all-sized : all sized Messages.messageTypes ≡ true
-unfolding all sized Messages.messageTypes
+all-sized : all sized messageTypes ≡ true
+unfolding all sized messageTypes
 all-sized = refl
 
 pub data Sized : ℕ → Type 0 where
-  manager : Sized Messages.managerPayload
-  transaction : Sized Messages.transactionPayload
-  nothing : Sized 0
+  manager : {n : ℕ} → n ≡ managerPayload → Sized n
+  transaction : {n : ℕ} → n ≡ transactionPayload → Sized n
+  nothing : {n : ℕ} → n ≡ 0 → Sized n
 
+said : (n : ℕ) → (eqb n managerPayload || (eqb n transactionPayload || eqb n 0)) ≡ true → Sized n
+said n e = by-either
+    (λ p. manager (eqb-true n managerPayload p))
+    (λ q. by-either (λ p. transaction (eqb-true n transactionPayload p)) (λ p. nothing (eqb-true n 0 p)) (true-or _ _ q))
+    (true-or _ _ e)
+
+pub payload-sized : (k : ℕ) → Sized (payloadOf k)
+unfolding sized isType payloadOf
+payload-sized k = by-test (isType k)
+    (λ p. said (payloadOf k) (all-each sized messageTypes all-sized _ (first-passes (messageType 0 0) _ messageTypes p .0)))
+    (λ p. nothing (ap (λ m. m .payload) (first-none (messageType 0 0) _ messageTypes p)))
+
+sized-small : {n : ℕ} → Sized n → n ≤ largestNumber
+sized-small (manager e) = omega arith
+sized-small (transaction e) = omega arith
+sized-small (nothing e) = omega arith
+
+-- ── what the tests say ──────────────────────────────────────────────────────────────────────────────────────────
+
+pub record IsMessage (bs : List ℕ) : Type 0 where
+  pub enough : messageHeaderSize ≤ length bs
+  pub tagged : tagIn bs ≡ tag
+  pub directed : masterIn bs ≤ 1
+  pub known : isType (typeIn bs) ≡ true
+  pub declared : payloadLengthIn bs ≡ payloadOf (typeIn bs)
+  pub exact : length bs ≡ lengthOf (typeIn bs)
+
+pub message-says : (bs : List ℕ) → isMessage bs ≡ true → IsMessage bs
+unfolding isMessage
+message-says bs e = taken (every-holding _ e)
+  where
+    taken : Holding (leb messageHeaderSize (length bs) ∷ eqb (tagIn bs) tag ∷ leb (masterIn bs) 1 ∷ isType (typeIn bs) ∷ eqb (payloadLengthIn bs) (payloadOf (typeIn bs)) ∷ eqb (length bs) (lengthOf (typeIn bs)) ∷ []) → IsMessage bs
+    taken (a also b also c also d also f also g also that-is-all) = record {
+      enough = leb-true _ _ a;
+      tagged = eqb-true _ _ b;
+      directed = leb-true _ _ c;
+      known = d;
+      declared = eqb-true _ _ f;
+      exact = eqb-true _ _ g;
+    }
+
+pub says-message : {bs : List ℕ} → IsMessage bs → isMessage bs ≡ true
+unfolding isMessage
+says-message {bs} p =
+    holding-every
+    (le-leb _ _ (p .enough) also eq-eqb _ _ (p .tagged) also le-leb _ _ (p .directed) also p .known also eq-eqb _ _ (p .declared)
+    also eq-eqb _ _ (p .exact) also that-is-all)
+
+-- a field that the type does not have is zero
+pub record IsWritable (m : Message) : Type 0 where
+  pub known : isType (m .kind) ≡ true
+  pub directed : m .master ≤ 1
+  pub tx : hasTransaction (m .kind) ≡ false → m .tx .0 ≡ zeroId
+  pub rm : hasManager (m .kind) ≡ false → m .rm .0 ≡ zeroId
+  pub session : hasManager (m .kind) ≡ false → m .session .0 ≡ zeroId
+
+zero-unless : (b : Bool) (t : Id) → (b || sameBytes t zeroId) ≡ true → b ≡ false → t ≡ zeroId
+zero-unless b t e n = same-equal t zeroId (rw n at e)
+
+unless-zero : (b : Bool) (t : Id) → (b ≡ false → t ≡ zeroId) → (b || sameBytes t zeroId) ≡ true
+unless-zero true t h = refl
+unless-zero false t h = equal-same t zeroId (h refl)
+
+pub writable-says : (m : Message) → isWritable m ≡ true → IsWritable m
+unfolding isWritable
+writable-says m e = taken (every-holding _ e)
+  where
+    taken : Holding (isType (m .kind) ∷ leb (m .master) 1 ∷ (hasTransaction (m .kind) || sameBytes (m .tx .0) zeroId) ∷ (hasManager (m .kind) || sameBytes (m .rm .0) zeroId) ∷ (hasManager (m .kind) || sameBytes (m .session .0) zeroId) ∷ []) → IsWritable m
+    taken (a also b also c also d also f also that-is-all) = record {
+      known = a;
+      directed = leb-true _ _ b;
+      tx = zero-unless _ _ c;
+      rm = zero-unless _ _ d;
+      session = zero-unless _ _ f;
+    }
+
+pub says-writable : {m : Message} → IsWritable m → isWritable m ≡ true
+unfolding isWritable
+says-writable {m} p =
+    holding-every
+    (p .known also le-leb _ _ (p .directed) also unless-zero _ _ (p .tx) also unless-zero _ _ (p .rm) also unless-zero _ _ (p .session) also that-is-all)
+
+-- what every Rattle value of the type meets: numbers of 32 bits, identifiers of 16 bytes
+pub record InRange (m : Message) : Type 0 where
+  pub master : m .master ≤ largestNumber
+  pub connection : m .connection ≤ largestNumber
+  pub kind : m .kind ≤ largestNumber
+  pub reserved : m .reserved ≤ largestNumber
+  pub tx : length (m .tx .0) ≡ identifierSize
+  pub rm : length (m .rm .0) ≡ identifierSize
+  pub session : length (m .session .0) ≡ identifierSize
+
+abbrev pub Bytes : List ℕ → Type 0
+Bytes bs = Each (λ b. b < 256) bs
+
+-- ── an accepted message, written ────────────────────────────────────────────────────────────────────────────────
+
+each-take : {P : ℕ → Type 0} (n : ℕ) (xs : List ℕ) → Each P xs → Each P (take n xs)
+each-take zero xs h = each-nothing _
+each-take (suc n) [] h = each-nothing _
+each-take (suc n) (x ∷ xs) h = each-more (each-head h) (each-take n xs (each-rest h))
+
+each-drop : {P : ℕ → Type 0} (n : ℕ) (xs : List ℕ) → Each P xs → Each P (drop n xs)
+each-drop zero xs h = h
+each-drop (suc n) [] h = each-nothing _
+each-drop (suc n) (x ∷ xs) h = each-drop n xs (each-rest h)
+
+part-long : (n start : ℕ) (bs : List ℕ) → start + n ≤ length bs → length (take n (drop start bs)) ≡ n
+part-long n start bs h = length-take-le n (drop start bs) (simp length-drop (omega arith))
+
+-- a part of the bytes, and what stands behind it
+part-rest : (n start : ℕ) (bs : List ℕ) → take n (drop start bs) ++ drop (start + n) bs ≡ drop start bs
+part-rest n start bs = rw (sym (drop-drop n start bs)) (take-append-drop n (drop start bs))
+
+-- the bytes from a field on, if n is the field's number and rest what stands behind it
+field-and : (start : ℕ) {n : ℕ} {bs rest : List ℕ} → Bytes bs → start + 4 ≤ length bs → n ≡ fieldAt start bs → rest ≡ drop (start + 4) bs → low4 n ++ rest ≡ drop start bs
+field-and start {n} {bs} {rest} h l e q =
+    ap (λ k. low4 k ++ rest) e
+    ∙ ap (λ x. x ++ rest) (low-of-number (take 4 (drop start bs)) (part-long 4 start bs l) (each-take 4 (drop start bs) (each-drop start bs h)))
+    ∙ ap (λ x. take 4 (drop start bs) ++ x) q
+    ∙ part-rest 4 start bs
+
+byte-below : (bs : List ℕ) (i : ℕ) → Bytes bs → getD bs i 0 < 256
+byte-below [] i h = omega arith
+byte-below (b ∷ bs) zero h = each-head h
+byte-below (b ∷ bs) (suc i) h = byte-below bs i (each-rest h)
+
+field-below : (start : ℕ) (bs : List ℕ) → Bytes bs → fieldAt start bs ≤ largestNumber
+field-below start bs h =
+    let part = take 4 (drop start bs) in
+    let below : Bytes part = each-take 4 (drop start bs) (each-drop start bs h) in
+    omega (arith, byte-below part 0 below, byte-below part 1 below, byte-below part 2 below, byte-below part 3 below)
+
+where-long : (b : Bool) (t : Id) → (b ≡ true → length t ≡ identifierSize) → length (whereThere b t) ≡ identifierSize
+where-long true t h = h refl
+where-long false t h = refl
+
+module _ (bs : List ℕ) (p : IsMessage bs) where
+  -- the last part of the bytes, of n at most
+  last : (n start : ℕ) → length bs ≤ start + n → take n (drop start bs) ≡ drop start bs
+  last n start h = take-all n (drop start bs) (simp length-drop (omega arith))
+
+  payload-rest : payloadBytes (messageIn bs) ≡ drop messageHeaderSize bs
+  unfolding messageIn
+  payload-rest = taken (payload-sized (typeIn bs))
+    where
+      taken : Sized (payloadOf (typeIn bs)) → payloadBytes (messageIn bs) ≡ drop messageHeaderSize bs
+      taken (manager e) = rw (e, last 16 40 (omega arith)) (part-rest 16 24 bs)
+      taken (transaction e) = rw (e, last 16 24 (omega arith))
+      taken (nothing e) = rw (e, drop-of-length-le bs {i = 24} (omega arith))
+
+  pub read-in-range : Bytes bs → InRange (messageIn bs)
+  unfolding messageIn
+  read-in-range h = record {
+    master = field-below 4 bs h;
+    connection = field-below 8 bs h;
+    kind = field-below 12 bs h;
+    reserved = field-below 20 bs h;
+    tx = where-long (hasTransaction (typeIn bs)) _ (λ e. part-long 16 24 bs (omega (arith, eqb-true (payloadOf (typeIn bs)) transactionPayload e)));
+    rm = where-long (hasManager (typeIn bs)) _ (λ e. part-long 16 24 bs (omega (arith, eqb-true (payloadOf (typeIn bs)) managerPayload e)));
+    session = where-long (hasManager (typeIn bs)) _ (λ e. part-long 16 40 bs (omega (arith, eqb-true (payloadOf (typeIn bs)) managerPayload e)));
+  }
+
+  pub read-writable : IsWritable (messageIn bs)
+  unfolding messageIn
+  read-writable = record {
+    known = p .known;
+    directed = p .directed;
+    tx = λ e. rw e;
+    rm = λ e. rw e;
+    session = λ e. rw e;
+  }
+
+  pub read-bytes : Bytes bs → messageBytes (messageIn bs) ≡ bs
+  unfolding messageIn messageBytes
+  read-bytes h =
+      let l = p .enough in
+      field-and 0 h (omega arith) (sym (p .tagged))
+      (field-and 4 h (omega arith) refl
+      (field-and 8 h (omega arith) refl
+      (field-and 12 h (omega arith) refl
+      (field-and 16 h (omega arith) (sym (p .declared))
+      (field-and 20 h (omega arith) refl payload-rest)))))
+
+-- ── a written message, read ─────────────────────────────────────────────────────────────────────────────────────
+
+module _ (m : Message) (r : InRange m) where
+  pub payload-long : length (payloadBytes m) ≡ payloadOf (m .kind)
+  payload-long = taken (payload-sized (m .kind))
+    where
+      taken : Sized (payloadOf (m .kind)) → length (payloadBytes m) ≡ payloadOf (m .kind)
+      taken (manager e) = rw (e, length-append) (omega (arith, r .rm, r .session))
+      taken (transaction e) = rw e (r .tx)
+      taken (nothing e) = rw e
+
+  pub message-long : length (messageBytes m) ≡ lengthOf (m .kind)
+  unfolding messageBytes
+  message-long = omega (arith, payload-long)
+
+  type-read : typeIn (messageBytes m) ≡ m .kind
+  unfolding messageBytes
+  type-read = number-of-low (m .kind) (r .kind)
+
+  module _ (w : IsWritable m) where
+    pub written-message : IsMessage (messageBytes m)
+    unfolding messageBytes
+    written-message = record {
+      enough = omega (arith, message-long);
+      tagged = refl;
+      directed = rw (number-of-low (m .master) (r .master)) (w .directed);
+      known = rw type-read (w .known);
+      declared = number-of-low (payloadOf (m .kind)) (sized-small (payload-sized (m .kind))) ∙ ap payloadOf (sym type-read);
+      exact = message-long ∙ ap (λ k. lengthOf k) (sym type-read);
+    }
+
+    tx-read : Sized (payloadOf (m .kind)) → whereThere (hasTransaction (m .kind)) (take 16 (payloadBytes m)) ≡ m .tx .0
+    tx-read (manager e) = rw e (sym (w .tx (rw e)))
+    tx-read (transaction e) = rw e (take-all 16 (m .tx .0) (omega (arith, r .tx)))
+    tx-read (nothing e) = rw e (sym (w .tx (rw e)))
+
+    rm-read : Sized (payloadOf (m .kind)) → whereThere (hasManager (m .kind)) (take 16 (payloadBytes m)) ≡ m .rm .0
+    rm-read (manager e) = rw e (take-at (m .rm .0) (m .session .0) 16 (r .rm))
+    rm-read (transaction e) = rw e (sym (w .rm (rw e)))
+    rm-read (nothing e) = rw e (sym (w .rm (rw e)))
+
+    session-read : Sized (payloadOf (m .kind)) → whereThere (hasManager (m .kind)) (take 16 (drop 16 (payloadBytes m))) ≡ m .session .0
+    session-read (manager e) = rw (e, drop-at (m .rm .0) (m .session .0) 16 (r .rm)) (take-all 16 (m .session .0) (omega (arith, r .session)))
+    session-read (transaction e) = rw e (sym (w .session (rw e)))
+    session-read (nothing e) = rw e (sym (w .session (rw e)))
+
+    pub written-read : messageIn (messageBytes m) ≡ m
+    unfolding messageIn messageBytes
+    written-read =
+        let s = payload-sized (m .kind) in
+        rw (number-of-low (m .master) (r .master), number-of-low (m .connection) (r .connection), type-read, number-of-low (m .reserved) (r .reserved), tx-read s, rm-read s, session-read s)
