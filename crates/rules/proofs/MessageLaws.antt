@@ -12,8 +12,9 @@ use lib.Seq.{length-take-le, take-all, take-at, drop-at, drop-drop}
 use borrow.Author.Tests.{eqb-true, eqb-false, eq-eqb, ne-eqb, leb-true, le-leb}
 use Rattle.lists.specs.Lists.{all, any, every, firstOr}
 use Rattle.lists.specs.Members.{_∈_, Each}
-use Rattle.lists.proofs.Tests.{by-test, by-either, true-and, true-or, all-each, first-passes, first-none, each-nothing, each-more, each-head, each-rest, Holding, that-is-all, _also_, every-holding, holding-every}
+use Rattle.lists.proofs.Tests.{by-test, by-either, and-true, true-and, true-or, all-each, first-passes, first-none, each-nothing, each-more, each-head, each-rest, Holding, that-is-all, _also_, every-holding, holding-every}
 use Rattle.rules.specs.declared.Message.{Message}
+use Rattle.rules.specs.RefusalNumber as refusal
 use Rattle.rules.specs.MessageType.{tag}
 use Rattle.rules.specs.Sizes.{identifierSize, messageHeaderSize, largestNumber}
 use Rattle.rules.specs.Identifiers.{Id, zeroId, sameBytes}
@@ -199,6 +200,10 @@ module _ (bs : List ℕ) (p : IsMessage bs) where
     session = where-long (hasManager (typeIn bs)) _ (λ e. part-long 16 40 bs (omega (arith, eqb-true (payloadOf (typeIn bs)) managerPayload e)));
   }
 
+  read-long : lengthOf (messageIn bs .kind) ≡ length bs
+  unfolding messageIn
+  read-long = sym (p .exact)
+
   pub read-writable : IsWritable (messageIn bs)
   unfolding messageIn
   read-writable = record {
@@ -271,3 +276,87 @@ module _ (m : Message) (r : InRange m) where
     written-read =
         let s = payload-sized (m .kind) in
         rw (number-of-low (m .master) (r .master), number-of-low (m .connection) (r .connection), type-read, number-of-low (m .reserved) (r .reserved), tx-read s, rm-read s, session-read s)
+
+-- ── what an answer says of its test ─────────────────────────────────────────────────────────────────────────────
+
+accepted-message : (bs : List ℕ) → readOf bs .refusal ≡ refusal.accepted → isMessage bs ≡ true
+unfolding readOf
+accepted-message bs e = by-test (isMessage bs) (λ p. p) (λ p. absurd (let n : _≡_ {A = ℕ} 14 0 = rw p at e in omega arith))
+
+message-read : (bs : List ℕ) → isMessage bs ≡ true → readOf bs ≡ record { refusal = refusal.accepted; message = messageIn bs }
+unfolding readOf
+message-read bs p = rw p
+
+accepted-fits : (m : Message) (memory : List ℕ) → writeOf m memory .refusal ≡ refusal.accepted → fits m memory ≡ true
+unfolding writeOf
+accepted-fits m memory e = by-test (fits m memory) (λ p. p) (λ p. absurd (let n : _≡_ {A = ℕ} 14 0 = rw p at e in omega arith))
+
+fits-written : (m : Message) (memory : List ℕ) → fits m memory ≡ true
+    → writeOf m memory ≡ record { refusal = refusal.accepted; length = lengthOf (m .kind); memory = messageBytes m ++ drop (lengthOf (m .kind)) memory }
+unfolding writeOf
+fits-written m memory p = rw p
+
+fits-from : (m : Message) (memory : List ℕ) → isWritable m ≡ true → lengthOf (m .kind) ≤ length memory → fits m memory ≡ true
+fits-from m memory w h = and-true w (le-leb _ _ h)
+
+-- ── the theorems ────────────────────────────────────────────────────────────────────────────────────────────────
+
+-- Each accepted message writes back to its own bytes.
+pub accepted-writes-back : (bs memory : List ℕ) → Bytes bs → readOf bs .refusal ≡ refusal.accepted → length bs ≤ length memory
+    → writeOf (readOf bs .message) memory ≡ record { refusal = refusal.accepted; length = length bs; memory = bs ++ drop (length bs) memory }
+accepted-writes-back bs memory h e room =
+    let p = accepted-message bs e in
+    let q = message-says bs p in
+    let l : lengthOf (messageIn bs .kind) ≡ length bs = read-long bs q in
+    rw (message-read bs p)
+    (fits-written (messageIn bs) memory (fits-from (messageIn bs) memory (says-writable (read-writable bs q)) (omega arith))
+    ∙ rw (l, read-bytes bs q h))
+
+-- Each written message reads back to itself.
+pub written-reads-back : (m : Message) (memory : List ℕ) → InRange m → writeOf m memory .refusal ≡ refusal.accepted
+    → readOf (take (writeOf m memory .length) (writeOf m memory .memory)) ≡ record { refusal = refusal.accepted; message = m }
+written-reads-back m memory r e =
+    let f = accepted-fits m memory e in
+    let w = writable-says m (true-and (isWritable m) _ f .0) in
+    rw (fits-written m memory f, take-at (messageBytes m) (drop (lengthOf (m .kind)) memory) (lengthOf (m .kind)) (message-long m r), message-read (messageBytes m) (says-message (written-message m r w)), written-read m r w)
+
+-- The reader accepts what the writer writes, and nothing else.
+pub record IsWritten (bs : List ℕ) : Type 0 where
+  pub it : Message
+  pub ranged : InRange it
+  pub writable : isWritable it ≡ true
+  pub same : bs ≡ messageBytes it
+
+pub accepted-is-written : (bs : List ℕ) → Bytes bs → readOf bs .refusal ≡ refusal.accepted → IsWritten bs
+accepted-is-written bs h e =
+    let p = message-says bs (accepted-message bs e) in
+    record { it = messageIn bs; ranged = read-in-range bs p h; writable = says-writable (read-writable bs p); same = sym (read-bytes bs p h) }
+
+pub written-is-accepted : (bs : List ℕ) → IsWritten bs → readOf bs .refusal ≡ refusal.accepted
+written-is-accepted bs w =
+    rw (w .same, message-read (messageBytes (w .it)) (says-message (written-message (w .it) (w .ranged) (writable-says (w .it) (w .writable)))))
+
+-- The writer, where it has the room, accepts what the reader gives, and nothing else.
+pub record IsRead (m : Message) : Type 0 where
+  pub it : List ℕ
+  pub same : readOf it ≡ record { refusal = refusal.accepted; message = m }
+
+pub accepted-is-read : (m : Message) (memory : List ℕ) → InRange m → writeOf m memory .refusal ≡ refusal.accepted → IsRead m
+accepted-is-read m memory r e = record { it = take (writeOf m memory .length) (writeOf m memory .memory); same = written-reads-back m memory r e }
+
+pub read-is-accepted : (m : Message) (memory : List ℕ) → IsRead m → lengthOf (m .kind) ≤ length memory → writeOf m memory .refusal ≡ refusal.accepted
+read-is-accepted m memory d room =
+    let p = accepted-message (d .it) (ap (λ a. a .refusal) (d .same)) in
+    let same : messageIn (d .it) ≡ m = ap (λ a. a .message) (sym (message-read (d .it) p) ∙ d .same) in
+    let w : isWritable m ≡ true = rw same at (says-writable (read-writable (d .it) (message-says (d .it) p))) in
+    ap (λ a. a .refusal) (fits-written m memory (fits-from m memory w room))
+
+-- Neither has another refusal.
+pub read-refused : (bs : List ℕ) → (readOf bs .refusal ≡ refusal.accepted → ⊥) → readOf bs ≡ record { refusal = refusal.badMessage; message = noMessage }
+unfolding readOf
+read-refused bs n = by-test (isMessage bs) (λ p. absurd (n (rw p))) (λ p. rw p)
+
+pub write-refused : (m : Message) (memory : List ℕ) → (writeOf m memory .refusal ≡ refusal.accepted → ⊥)
+    → writeOf m memory ≡ record { refusal = refusal.badMessage; length = 0; memory = memory }
+unfolding writeOf
+write-refused m memory n = by-test (fits m memory) (λ p. absurd (n (rw p))) (λ p. rw p)
