@@ -7,11 +7,11 @@ ghost use lib.Dec.{leb};
 ghost use lib.ListN.{length};
 ghost use lib.Seq.{sets};
 ghost use Rattle.lists.specs.Lists.{every};
+ghost use Rattle.rules.specs.Sizes.{identifierSize, messageHeaderSize};
 ghost use Rattle.rules.specs.Identifiers.{zeroId, sameBytes};
 ghost use Rattle.rules.specs.Log.{low4};
 ghost use Rattle.rules.specs.Messages.{isType, payloadOf, lengthOf, fieldAt, identifierIn, whereThere, isMessage, messageIn, noMessage, isWritable, payloadBytes};
 ghost use Rattle.messages.specs.Promises.{IsReading, IsWriting, headerBytes};
-
 use rules::Message;
 use rules::Read;
 use rules::RmId;
@@ -36,18 +36,43 @@ const TRANSACTION: u32 = 16;
 
 const MANAGER: u32 = 32;
 
+// The eight, with their payload lengths: the reader and the writer go by it.
 const TYPES: [MessageType; 8] = [
-    MessageType { kind: message_type::CREATE_RM, payload: MANAGER },
-    MessageType { kind: message_type::COMMIT_REQUEST, payload: TRANSACTION },
-    MessageType { kind: message_type::CHECK_ABORT, payload: TRANSACTION },
-    MessageType { kind: message_type::BRANCH, payload: TRANSACTION },
-    MessageType { kind: message_type::COMMIT_REQUEST_DONE, payload: NOTHING },
-    MessageType { kind: message_type::COMMIT_RETRY, payload: NOTHING },
-    MessageType { kind: message_type::CHECK_ABORTED, payload: NOTHING },
-    MessageType { kind: message_type::CHECK_RETRY, payload: NOTHING },
+    MessageType {
+        kind: message_type::CREATE_RM,
+        payload: MANAGER,
+    },
+    MessageType {
+        kind: message_type::COMMIT_REQUEST,
+        payload: TRANSACTION,
+    },
+    MessageType {
+        kind: message_type::CHECK_ABORT,
+        payload: TRANSACTION,
+    },
+    MessageType {
+        kind: message_type::BRANCH,
+        payload: TRANSACTION,
+    },
+    MessageType {
+        kind: message_type::COMMIT_REQUEST_DONE,
+        payload: NOTHING,
+    },
+    MessageType {
+        kind: message_type::COMMIT_RETRY,
+        payload: NOTHING,
+    },
+    MessageType {
+        kind: message_type::CHECK_ABORTED,
+        payload: NOTHING,
+    },
+    MessageType {
+        kind: message_type::CHECK_RETRY,
+        payload: NOTHING,
+    },
 ];
 
-// What the table says of a type: whether it is one of the eight, and its payload length, 0 if it is none.
+// Whether a type is one of the eight, and its payload length, 0 if it is none.
 struct Payload {
     known: bool,
     length: u32,
@@ -61,14 +86,20 @@ fn payload_of(kind: u32) -> Payload
         let row = TYPES[i];
         let same = row.kind == kind;
         if same {
-            return Payload { known: true, length: row.payload };
+            return Payload {
+                known: true,
+                length: row.payload,
+            };
         }
         i += 1;
     }
-    Payload { known: false, length: NOTHING }
+    Payload {
+        known: false,
+        length: NOTHING,
+    }
 }
 
-// ---- Where the fields start.
+// ---- Where the fields start. The payload is a transaction, or a resource manager and then its session.
 
 const TAG_AT: usize = 0;
 
@@ -88,6 +119,7 @@ const SESSION_AT: usize = sizes::MESSAGE_HEADER + sizes::IDENTIFIER;
 
 // ---- The reader.
 
+// With its bound, which the sum of a field's bytes needs.
 fn wide(byte: u8) -> u32
     ensures { λ r. ⌜ (r ≡ byte) × (r ≤ 255) ⌝ }
 {
@@ -98,16 +130,19 @@ fn field_at(bytes: &[u8], start: usize) -> u32
     requires { ⌜ start + 4 ≤ length (now bytes) ⌝ }
     ensures { λ r. ⌜ r ≡ fieldAt start (now (bytes .entry)) ⌝ }
 {
-    wide(bytes[start]) + 256 * wide(bytes[start + 1]) + 65536 * wide(bytes[start + 2]) + 16777216 * wide(bytes[start + 3])
+    wide(bytes[start])
+        + 256 * wide(bytes[start + 1])
+        + 65536 * wide(bytes[start + 2])
+        + 16777216 * wide(bytes[start + 3])
 }
 
 fn identifier_at(bytes: &[u8], start: usize) -> [u8; 16]
-    requires { ⌜ start + 16 ≤ length (now bytes) ⌝ }
+    requires { ⌜ start + identifierSize ≤ length (now bytes) ⌝ }
     ensures { λ r. ⌜ r ≡ identifierIn start (now (bytes .entry)) ⌝ }
 {
     let mut id = [0u8; 16];
     let mut i: usize = 0;
-    while i < 16 {
+    while i < sizes::IDENTIFIER {
         id[i] = bytes[start + i];
         i += 1;
     }
@@ -116,7 +151,7 @@ fn identifier_at(bytes: &[u8], start: usize) -> [u8; 16]
 
 // Zeros where the message has no such field.
 fn identifier_where(there: bool, bytes: &[u8], start: usize) -> [u8; 16]
-    requires { ⌜ (there ≡ true → start + 16 ≤ length (now bytes)) ⌝ }
+    requires { ⌜ (there ≡ true → start + identifierSize ≤ length (now bytes)) ⌝ }
     ensures { λ r. ⌜ r ≡ whereThere there (identifierIn start (now (bytes .entry))) ⌝ }
 {
     if there {
@@ -191,14 +226,23 @@ fn no_message() -> Message
     }
 }
 
+// Laws of rules/proofs/MessageLaws.antt: an accepted message writes back to its own bytes (accepted-writes-back); what is accepted is
+// what the writer writes, and nothing else (accepted-is-written, written-is-accepted); any other bytes give 14 and the all-zero message
+// (read-refused). Two answers that meet the promise coincide: proofs/Coincide.antt, readings-coincide.
 pub fn read_message(bytes: &[u8]) -> Read
     ensures { λ r. ⌜ IsReading (now (bytes .entry)) r ⌝ }
 {
     let good = is_message(bytes);
     if good {
-        Read { refusal: refusal::ACCEPTED, message: message_in(bytes) }
+        Read {
+            refusal: refusal::ACCEPTED,
+            message: message_in(bytes),
+        }
     } else {
-        Read { refusal: refusal::BAD_MESSAGE, message: no_message() }
+        Read {
+            refusal: refusal::BAD_MESSAGE,
+            message: no_message(),
+        }
     }
 }
 
@@ -208,7 +252,7 @@ fn is_zero(id: [u8; 16]) -> bool
     ensures { λ r. ⌜ r ≡ sameBytes id zeroId ⌝ }
 {
     let mut i: usize = 0;
-    while i < 16 {
+    while i < sizes::IDENTIFIER {
         let zero = id[i] == 0;
         if zero {
             i += 1;
@@ -244,7 +288,7 @@ fn is_writable(message: Message) -> bool
     all(payload.known, directed, tx_fits, rm_fits, session_fits)
 }
 
-fn put4(memory: &mut [u8], start: usize, n: u32)
+fn put_field(memory: &mut [u8], start: usize, n: u32)
     requires { ⌜ start + 4 ≤ length (now memory) ⌝ }
     ensures { λ r. ⌜ now (memory .exit) ≡ sets (now (memory .entry)) start (low4 n) ⌝ }
 {
@@ -254,48 +298,48 @@ fn put4(memory: &mut [u8], start: usize, n: u32)
     memory[start + 3] = (n / 16777216 % 256) as u8;
 }
 
-fn put16(memory: &mut [u8], start: usize, id: [u8; 16])
-    requires { ⌜ start + 16 ≤ length (now memory) ⌝ }
-    ensures { λ r. ⌜ (now (memory .exit) ≡ sets (now (memory .entry)) start id) × (length id ≡ 16) ⌝ }
+fn put_identifier(memory: &mut [u8], start: usize, id: [u8; 16])
+    requires { ⌜ start + identifierSize ≤ length (now memory) ⌝ }
+    ensures { λ r. ⌜ (now (memory .exit) ≡ sets (now (memory .entry)) start id) × (length id ≡ identifierSize) ⌝ }
 {
     let mut i: usize = 0;
-    while i < 16 {
+    while i < sizes::IDENTIFIER {
         memory[start + i] = id[i];
         i += 1;
     }
 }
 
 fn put_header(memory: &mut [u8], message: Message, payload: u32)
-    requires { ⌜ 24 ≤ length (now memory) ⌝ }
+    requires { ⌜ messageHeaderSize ≤ length (now memory) ⌝ }
     ensures { λ r. ⌜ now (memory .exit) ≡ sets (now (memory .entry)) 0 (headerBytes message payload) ⌝ }
 {
-    put4(memory, TAG_AT, message_type::TAG);
-    put4(memory, MASTER_AT, message.master);
-    put4(memory, CONNECTION_AT, message.connection);
-    put4(memory, TYPE_AT, message.kind);
-    put4(memory, LENGTH_AT, payload);
-    put4(memory, RESERVED_AT, message.reserved);
+    put_field(memory, TAG_AT, message_type::TAG);
+    put_field(memory, MASTER_AT, message.master);
+    put_field(memory, CONNECTION_AT, message.connection);
+    put_field(memory, TYPE_AT, message.kind);
+    put_field(memory, LENGTH_AT, payload);
+    put_field(memory, RESERVED_AT, message.reserved);
 }
 
 fn put_payload(memory: &mut [u8], message: Message, payload: u32)
-    requires { ⌜ (payload ≡ payloadOf (message .kind)) × (24 + payload ≤ length (now memory)) ⌝ }
-    ensures { λ r. ⌜ (now (memory .exit) ≡ sets (now (memory .entry)) 24 (payloadBytes message)) × (length (payloadBytes message) ≡ payload) ⌝ }
+    requires { ⌜ (payload ≡ payloadOf (message .kind)) × (messageHeaderSize + payload ≤ length (now memory)) ⌝ }
+    ensures { λ r. ⌜ (now (memory .exit) ≡ sets (now (memory .entry)) messageHeaderSize (payloadBytes message)) × (length (payloadBytes message) ≡ payload) ⌝ }
 {
     let manager = payload == MANAGER;
     if manager {
         let rm = message.rm;
         let rm_id = rm.0;
-        put16(memory, PAYLOAD_AT, rm_id);
+        put_identifier(memory, PAYLOAD_AT, rm_id);
         let session = message.session;
         let session_id = session.0;
-        put16(memory, SESSION_AT, session_id);
+        put_identifier(memory, SESSION_AT, session_id);
         return;
     }
     let transaction = payload == TRANSACTION;
     if transaction {
         let tx = message.tx;
         let tx_id = tx.0;
-        put16(memory, PAYLOAD_AT, tx_id);
+        put_identifier(memory, PAYLOAD_AT, tx_id);
         return;
     }
 }
@@ -307,6 +351,9 @@ fn fits(message: Message, length: usize, room: usize) -> bool
     if writable { length <= room } else { false }
 }
 
+// Laws of rules/proofs/MessageLaws.antt: a written message reads back to itself (written-reads-back); what is accepted, where there is the
+// room, is what the reader gives, and nothing else (accepted-is-read, read-is-accepted); any other message gives 14, length 0 and the
+// memory as it was (write-refused). Two answers that meet the promise coincide: proofs/Coincide.antt, writings-coincide.
 pub fn write_message(message: Message, memory: &mut [u8]) -> Written
     ensures { λ r. ⌜ IsWriting message (now (memory .entry)) r (now (memory .exit)) ⌝ }
 {
@@ -317,8 +364,14 @@ pub fn write_message(message: Message, memory: &mut [u8]) -> Written
     if good {
         put_header(memory, message, payload_length);
         put_payload(memory, message, payload_length);
-        Written { refusal: refusal::ACCEPTED, length }
+        Written {
+            refusal: refusal::ACCEPTED,
+            length,
+        }
     } else {
-        Written { refusal: refusal::BAD_MESSAGE, length: 0 }
+        Written {
+            refusal: refusal::BAD_MESSAGE,
+            length: 0,
+        }
     }
 }

@@ -1,5 +1,6 @@
 // Vectors for the eight messages. Source document 000 prints fields; here they are bytes, each 32-bit field low byte first, and each GUID
-// as MS-DTYP (section 2.3.4.2) lays it out: its first three fields low byte first, then eight bytes as they are printed.
+// as MS-DTYP (section 2.3.4.2) lays it out: its first three fields low byte first, then eight bytes as they are printed. (The four words
+// that section 4 prints beside a GUID have its ninth and tenth byte exchanged.)
 // A line is what the reader makes of a vector, and then what the writer makes of the reader's message in 58 bytes of ee.
 use rules::Message;
 use rules::RmId;
@@ -7,31 +8,33 @@ use rules::SessionId;
 use rules::TxId;
 use rules::message_type;
 
-// Section 4.2.3, PARTNERTM_BRANCH_MTAG_BRANCHING, of 4046037e-9722-46c9-9883-99062341cb35.
-const BRANCHING: [u8; 40] = [
-    0xff, 0x0f, 0, 0, 1, 0, 0, 0, 1, 0, 0, 0, 0x51, 0x20, 0, 0, 0x10, 0, 0, 0, 0x64, 0xcd, 0x64, 0xcd,
-    0x7e, 0x03, 0x46, 0x40, 0x22, 0x97, 0xc9, 0x46, 0x98, 0x83, 0x99, 0x06, 0x23, 0x41, 0xcb, 0x35,
-];
+// Section 4.2.3, PARTNERTM_BRANCH_MTAG_BRANCHING: MsgTag, fIsMaster, dwConnectionId, dwUserMsgType, dwcbVarLenData, dwReserved1, and
+// guidTx 4046037e-9722-46c9-9883-99062341cb35.
+const BRANCHING: [u8; 40] =
+    *b"\xff\x0f\x00\x00\x01\x00\x00\x00\x01\x00\x00\x00\x51\x20\x00\x00\x10\x00\x00\x00\x64\xcd\x64\xcd\
+    \x7e\x03\x46\x40\x22\x97\xc9\x46\x98\x83\x99\x06\x23\x41\xcb\x35";
 
-// Section 4.4.1, TXUSER_RESOURCEMANAGER_MTAG_CREATE: resource manager E7BAEBDF-DC69-4E2B-9FF1-69A1D3592877,
-// session 8F5204B3-5FB9-466A-A0B8-2DAF3FCBD9AA.
-const CREATE: [u8; 56] = [
-    0xff, 0x0f, 0, 0, 1, 0, 0, 0, 2, 0, 0, 0, 0x51, 0x10, 0, 0, 0x20, 0, 0, 0, 0x64, 0xcd, 0x64, 0xcd,
-    0xdf, 0xeb, 0xba, 0xe7, 0x69, 0xdc, 0x2b, 0x4e, 0x9f, 0xf1, 0x69, 0xa1, 0xd3, 0x59, 0x28, 0x77,
-    0xb3, 0x04, 0x52, 0x8f, 0xb9, 0x5f, 0x6a, 0x46, 0xa0, 0xb8, 0x2d, 0xaf, 0x3f, 0xcb, 0xd9, 0xaa,
-];
+// Section 4.4.1, TXUSER_RESOURCEMANAGER_MTAG_CREATE: the same fields, guidRm E7BAEBDF-DC69-4E2B-9FF1-69A1D3592877 and
+// guidSession 8F5204B3-5FB9-466A-A0B8-2DAF3FCBD9AA.
+const CREATE: [u8; 56] =
+    *b"\xff\x0f\x00\x00\x01\x00\x00\x00\x02\x00\x00\x00\x51\x10\x00\x00\x20\x00\x00\x00\x64\xcd\x64\xcd\
+    \xdf\xeb\xba\xe7\x69\xdc\x2b\x4e\x9f\xf1\x69\xa1\xd3\x59\x28\x77\
+    \xb3\x04\x52\x8f\xb9\x5f\x6a\x46\xa0\xb8\x2d\xaf\x3f\xcb\xd9\xaa";
 
 // A message without payload, of type 0x2012, from the party that accepted the connection.
-const ANSWER: [u8; 24] = [
-    0xff, 0x0f, 0, 0, 0, 0, 0, 0, 4, 3, 2, 1, 0x12, 0x20, 0, 0, 0, 0, 0, 0, 0xff, 0xff, 0xff, 0xff,
-];
+const ANSWER: [u8; 24] =
+    *b"\xff\x0f\x00\x00\x00\x00\x00\x00\x04\x03\x02\x01\x12\x20\x00\x00\x00\x00\x00\x00\xff\xff\xff\xff";
 
 // ---- A line.
+
+fn wide(byte: u8) -> u64 {
+    byte as u64
+}
 
 fn print_bytes(bytes: &[u8]) {
     let mut i: usize = 0;
     while i < bytes.len() {
-        io::print_hex(1, bytes[i] as u64, 2);
+        io::print_hex(1, wide(bytes[i]), 2);
         i += 1;
     }
 }
@@ -237,10 +240,12 @@ fn unwritable() {
 fn foreign_fields() {
     let mut memory = [0xeeu8; 58];
     let mut with_rm = branching_message();
-    with_rm.rm = RmId([7u8; 16]);
+    let rm = RmId([7u8; 16]);
+    with_rm.rm = rm;
     written(b"branching-with-rm", with_rm, &mut memory);
     let mut with_session = branching_message();
-    with_session.session = SessionId([7u8; 16]);
+    let session = SessionId([7u8; 16]);
+    with_session.session = session;
     written(b"branching-with-session", with_session, &mut memory);
     let mut create = branching_message();
     create.kind = message_type::CREATE_RM;
@@ -255,7 +260,8 @@ fn zero_fields() {
     let mut memory = [0xeeu8; 58];
     let mut create = branching_message();
     create.kind = message_type::CREATE_RM;
-    create.tx = TxId([0u8; 16]);
+    let tx = TxId([0u8; 16]);
+    create.tx = tx;
     written(b"create-rm-of-zeros", create, &mut memory);
 }
 

@@ -39,8 +39,8 @@ field-at-spec =
     (λ c. search needs)
     (λ c. search needs)
     (λ c.
-      let d = c .before .before in
-      let e = d .before .before in
-      let f = e .before .before in
-      rw (f .wide .ensures .0, e .wide2 .ensures .0, d .wide3 .ensures .0, c .wide4 .ensures .0)
-      (sym (field (f .before .before .before .args .bytes .now) (f .before .before .before .args .start)))))
+    let d = c .before .before in
+    let e = d .before .before in
+    let f = e .before .before in
+    rw (f .wide .ensures .0, e .wide2 .ensures .0, d .wide3 .ensures .0, c .wide4 .ensures .0)
+    (sym (field (f .before .before .before .args .bytes .now) (f .before .before .before .args .start)))))

@@ -21,9 +21,9 @@ is-message-spec =
     (λ c. search needs)
     (λ c κs. search needs)
     (λ c.
-      let d = c .before .before .before in
-      let p = d .before in
-      let t = p .before in
-      let m = t .before in
-      let g = m .before in
-      rw (le-leb _ _ (g .before .if1 .left), c .all .ensures, d .field-at4 .ensures, p .payload-of .ensures .0, p .payload-of .ensures .1, t .field-at3 .ensures, m .field-at2 .ensures, g .field-at .ensures)))
+    let d = c .before .before .before in
+    let p = d .before in
+    let t = p .before in
+    let m = t .before in
+    let g = m .before in
+    rw (le-leb _ _ (g .before .if1 .left), c .all .ensures, d .field-at4 .ensures, p .payload-of .ensures .0, p .payload-of .ensures .1, t .field-at3 .ensures, m .field-at2 .ensures, g .field-at .ensures)))

@@ -18,8 +18,8 @@ is-writable-spec =
     (λ c κs. search needs)
     (λ c κs. search needs)
     (λ c.
-      let s = c .before in
-      let r = s .before .before .before .before in
-      let t = r .before .before .before .before in
-      let p = t .before .before .before .before .before .before .before in
-      rw (c .all .ensures, s .either3 .ensures, s .before .is-zero3 .ensures, r .either2 .ensures, r .before .is-zero2 .ensures, t .either .ensures, t .before .is-zero .ensures, p .payload-of .ensures .0, p .payload-of .ensures .1)))
+    let s = c .before in
+    let r = s .before .before .before .before in
+    let t = r .before .before .before .before in
+    let p = t .before .before .before .before .before .before .before in
+    rw (c .all .ensures, s .either3 .ensures, s .before .is-zero3 .ensures, r .either2 .ensures, r .before .is-zero2 .ensures, t .either .ensures, t .before .is-zero .ensures, p .payload-of .ensures .0, p .payload-of .ensures .1)))

@@ -33,17 +33,19 @@ message-in-spec =
     (λ c κs. let h = header _ (c .before .before .before .before .before .before .pre) in omega arith)
     (λ c κs. let h = header _ (c .before .before .before .before .before .before .before .pre) in omega arith)
     (λ c κs e.
-      let p = c .before .before .before .before .before in
-      whole _ 16 (p .before .before .before .pre) (p .before .field-at .ensures) (p .payload-of .ensures .1) e)
+    let p = c .before .before .before .before .before in
+    let h = whole _ 16 (p .before .before .before .pre) (p .before .field-at .ensures) (p .payload-of .ensures .1) e in
+    omega arith)
     (λ c κs e.
-      let p = c .before .before .before .before .before .before in
-      let h = whole _ 32 (p .before .before .before .pre) (p .before .field-at .ensures) (p .payload-of .ensures .1) e in
-      omega arith)
+    let p = c .before .before .before .before .before .before in
+    let h = whole _ 32 (p .before .before .before .pre) (p .before .field-at .ensures) (p .payload-of .ensures .1) e in
+    omega arith)
     (λ c κs e.
-      let p = c .before .before .before .before .before .before .before in
-      whole _ 32 (p .before .before .before .pre) (p .before .field-at .ensures) (p .payload-of .ensures .1) e)
+    let p = c .before .before .before .before .before .before .before in
+    let h = whole _ 32 (p .before .before .before .pre) (p .before .field-at .ensures) (p .payload-of .ensures .1) e in
+    omega arith)
     (λ c.
-      let r = c .before .before .before in
-      let m = r .before .before in
-      let p = m .before .before .before in
-      rw (c .identifier-where3 .ensures, c .before .identifier-where2 .ensures, c .before .before .identifier-where .ensures, r .field-at4 .ensures, r .before .field-at3 .ensures, m .field-at2 .ensures, p .payload-of .ensures .1, p .before .field-at .ensures)))
+    let r = c .before .before .before in
+    let m = r .before .before in
+    let p = m .before .before .before in
+    rw (c .identifier-where3 .ensures, c .before .identifier-where2 .ensures, c .before .before .identifier-where .ensures, r .field-at4 .ensures, r .before .field-at3 .ensures, m .field-at2 .ensures, p .payload-of .ensures .1, p .before .field-at .ensures)))

@@ -16,10 +16,10 @@ put-header-spec =
     (λ c κs. search needs)
     (λ c. search needs)
     (λ c.
-      let f = c .before .before in
-      let e = f .before .before .before .before in
-      let d = e .before .before .before .before in
-      let b = d .before .before .before .before in
-      let a = b .before .before .before .before in
-      let z = a .before .before .before .before in
-      rw (f .put46 .ensures, e .put45 .ensures, d .put44 .ensures, b .put43 .ensures, a .put42 .ensures, z .put4 .ensures)))
+    let f = c .before .before in
+    let e = f .before .before .before .before in
+    let d = e .before .before .before .before in
+    let b = d .before .before .before .before in
+    let a = b .before .before .before .before in
+    let z = a .before .before .before .before in
+    rw (f .put-field6 .ensures, e .put-field5 .ensures, d .put-field4 .ensures, b .put-field3 .ensures, a .put-field2 .ensures, z .put-field .ensures)))

@@ -45,30 +45,30 @@ put-payload-spec =
     tie.close
     (tie.spec
     (λ c κs.
-      let s = c .before .before .before .before .before in
-      let h = room (s .args .payload) 32 _ (s .pre .1) (c .before .before .before .if1 .taken) in
-      omega arith)
+    let s = c .before .before .before .before .before in
+    let h = room (s .args .payload) 32 _ (s .pre .1) (c .before .before .before .if1 .taken) in
+    omega arith)
     (λ c κs.
-      let f = c .before .before .before .before .before in
-      let a = f .before .before .before .before in
-      let s = a .before .before in
-      omega (arith, f .put16 .kept .0, room (s .args .payload) 32 _ (s .pre .1) (a .if1 .taken)))
+    let f = c .before .before .before .before .before in
+    let a = f .before .before .before .before in
+    let s = a .before .before in
+    omega (arith, f .put-identifier .kept .0, room (s .args .payload) 32 _ (s .pre .1) (a .if1 .taken)))
     (λ c. search needs)
     (λ c.
-      let g = c .before .before in
-      let f = g .before .before .before .before .before .before in
-      let a = f .before .before .before .before in
-      let s = a .before .before in
-      two (s .args .message) (s .args .memory .now) (s .pre .0) (a .if1 .taken) (f .put16 .ensures .0) (f .put16 .ensures .1) (g .put162 .ensures .0) (g .put162 .ensures .1))
+    let g = c .before .before in
+    let f = g .before .before .before .before .before .before in
+    let a = f .before .before .before .before in
+    let s = a .before .before in
+    two (s .args .message) (s .args .memory .now) (s .pre .0) (a .if1 .taken) (f .put-identifier .ensures .0) (f .put-identifier .ensures .1) (g .put-identifier2 .ensures .0) (g .put-identifier2 .ensures .1))
     (λ c κs.
-      let s = c .before .before .before .before .before .before in
-      room (s .args .payload) 16 _ (s .pre .1) (c .before .before .before .if2 .taken))
+    let s = c .before .before .before .before .before .before in
+    room (s .args .payload) 16 _ (s .pre .1) (c .before .before .before .if2 .taken))
     (λ c. search needs)
     (λ c.
-      let g = c .before .before in
-      let a = g .before .before .before .before in
-      let s = a .before .before .before in
-      one (s .args .message) (s .args .memory .now) (s .pre .0) (a .before .if1 .left) (a .if2 .taken) (g .put163 .ensures .0) (g .put163 .ensures .1))
+    let g = c .before .before in
+    let a = g .before .before .before .before in
+    let s = a .before .before .before in
+    one (s .args .message) (s .args .memory .now) (s .pre .0) (a .before .if1 .left) (a .if2 .taken) (g .put-identifier3 .ensures .0) (g .put-identifier3 .ensures .1))
     (λ c.
-      let s = c .before .before .before in
-      none (s .args .message) (s .args .memory .now) (s .pre .0) (c .before .if1 .left) (c .if2 .left)))
+    let s = c .before .before .before in
+    none (s .args .message) (s .args .memory .now) (s .pre .0) (c .before .if1 .left) (c .if2 .left)))

@@ -50,26 +50,26 @@ write-message-spec =
     (λ c. search needs)
     (λ c κs. search needs)
     (λ c κs.
-      let p = c .before .before .before in
-      let s = p .before .before in
-      let h = has-room (s .args .message) (s .args .memory .now) (p .payload-of .ensures .1) (c .before .before .fits2 .ensures) (c .before .if1 .taken) in
-      omega arith)
+    let p = c .before .before .before in
+    let s = p .before .before in
+    let h = has-room (s .args .message) (s .args .memory .now) (p .payload-of .ensures .1) (c .before .before .fits2 .ensures) (c .before .if1 .taken) in
+    omega arith)
     (λ c κs.
-      let h = c .before .before .before in
-      let g = h .before .before in
-      let p = g .before .before in
-      let s = p .before .before in
-      let r = has-room (s .args .message) (s .args .memory .now) (p .payload-of .ensures .1) (g .before .fits2 .ensures) (g .if1 .taken) in
-      (p .payload-of .ensures .1, omega (arith, h .put-header .kept .0)))
+    let h = c .before .before .before in
+    let g = h .before .before in
+    let p = g .before .before in
+    let s = p .before .before in
+    let r = has-room (s .args .message) (s .args .memory .now) (p .payload-of .ensures .1) (g .before .fits2 .ensures) (g .if1 .taken) in
+    (p .payload-of .ensures .1, omega (arith, h .put-header .kept .0)))
     (λ c. search needs)
     (λ c.
-      let b = c .before .before in
-      let h = b .before .before .before .before in
-      let g = h .before .before in
-      let p = g .before .before in
-      let s = p .before .before in
-      written (s .args .message) (s .args .memory .now) (p .payload-of .ensures .1) (g .before .fits2 .ensures) (g .if1 .taken) (h .put-header .ensures) (b .put-payload .ensures .0) (b .put-payload .ensures .1))
+    let b = c .before .before in
+    let h = b .before .before .before .before in
+    let g = h .before .before in
+    let p = g .before .before in
+    let s = p .before .before in
+    written (s .args .message) (s .args .memory .now) (p .payload-of .ensures .1) (g .before .fits2 .ensures) (g .if1 .taken) (h .put-header .ensures) (b .put-payload .ensures .0) (b .put-payload .ensures .1))
     (λ c.
-      let p = c .before .before in
-      let s = p .before .before in
-      refused (s .args .message) (s .args .memory .now) (p .payload-of .ensures .1) (c .before .fits2 .ensures) (c .if1 .left)))
+    let p = c .before .before in
+    let s = p .before .before in
+    refused (s .args .message) (s .args .memory .now) (p .payload-of .ensures .1) (c .before .fits2 .ensures) (c .if1 .left)))

@@ -3,11 +3,11 @@ use Prim.Native.Nat.{_-_}
 use mathlib.Core.Path.{refl}
 use borrow.Author.Needs.{needs}
 use Rattle.messages.proofs.Stores.{Stored, store-start, store-again, store-done}
-use Rattle.messages.proofs.put16.Statement.{statement}
-use Rattle.messages.proofs.put16.Tie as tie
+use Rattle.messages.proofs.put_identifier.Statement.{statement}
+use Rattle.messages.proofs.put_identifier.Tie as tie
 
-pub put16-spec : {M : Type 1} → statement M
-put16-spec =
+pub put-identifier-spec : {M : Type 1} → statement M
+put-identifier-spec =
     tie.close
     (tie.spec
     (λ memory₀ start id i₀ memory i. Stored 16 id memory₀ start memory i)
