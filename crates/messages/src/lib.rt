@@ -10,7 +10,7 @@ ghost use Rattle.lists.specs.Lists.{every};
 ghost use Rattle.rules.specs.Sizes.{identifierSize, messageHeaderSize};
 ghost use Rattle.rules.specs.Identifiers.{zeroId, sameBytes};
 ghost use Rattle.rules.specs.Log.{low4};
-ghost use Rattle.rules.specs.Messages.{isType, payloadOf, lengthOf, fieldAt, identifierIn, whereThere, isMessage, messageIn, noMessage, isWritable, payloadBytes};
+ghost use Rattle.rules.specs.Messages.{isType, payloadOf, fieldAt, identifierIn, whereThere, isMessage, messageIn, noMessage, isWritable, payloadBytes};
 ghost use Rattle.messages.specs.Promises.{IsReading, IsWriting, headerBytes};
 use rules::Message;
 use rules::Read;
@@ -161,22 +161,16 @@ fn identifier_where(there: bool, bytes: &[u8], start: usize) -> [u8; 16]
     }
 }
 
+fn both(a: bool, b: bool) -> bool
+    ensures { λ r. ⌜ r ≡ (a && b) ⌝ }
+{
+    if a { b } else { false }
+}
+
 fn all(a: bool, b: bool, c: bool, d: bool, e: bool) -> bool
     ensures { λ r. ⌜ r ≡ every (a ∷ b ∷ c ∷ d ∷ e ∷ []) ⌝ }
 {
-    if a {
-        if b {
-            if c {
-                if d {
-                    return e;
-                }
-                return false;
-            }
-            return false;
-        }
-        return false;
-    }
-    false
+    both(a, both(b, both(c, both(d, e))))
 }
 
 fn is_message(bytes: &[u8]) -> bool
@@ -347,13 +341,13 @@ fn put_payload(memory: &mut [u8], message: Message, payload: u32)
 fn fits(message: Message, length: usize, room: usize) -> bool
     ensures { λ r. ⌜ r ≡ (isWritable message && leb length room) ⌝ }
 {
-    let writable = is_writable(message);
-    if writable { length <= room } else { false }
+    both(is_writable(message), length <= room)
 }
 
-// Laws of rules/proofs/MessageLaws.antt: a written message reads back to itself (written-reads-back); what is accepted, where there is the
-// room, is what the reader gives, and nothing else (accepted-is-read, read-is-accepted); any other message gives 14, length 0 and the
-// memory as it was (write-refused). Two answers that meet the promise coincide: proofs/Coincide.antt, writings-coincide.
+// Laws of rules/proofs/MessageLaws.antt: a written message reads back to itself (written-reads-back); what is accepted has the room
+// (accepted-has-room) and is what the reader gives, and nothing else is accepted (accepted-is-read, read-is-accepted); any other call
+// gives 14, length 0 and the memory as it was (write-refused). Two answers that meet the promise coincide: proofs/Coincide.antt,
+// writings-coincide.
 pub fn write_message(message: Message, memory: &mut [u8]) -> Written
     ensures { λ r. ⌜ IsWriting message (now (memory .entry)) r (now (memory .exit)) ⌝ }
 {

@@ -3,24 +3,23 @@
 use Prim.Native.Nat.{ℕ, zero, suc, _+_, _≤_, _<_}
 use native.Mathlib.Omega.{arith}
 use mathlib.Core.Path.{_≡_, refl, sym, _∙_, ap}
-use mathlib.Core.Logic.{_⊎_, inl, inr}
-use mathlib.Core.Bool.{Bool, true, false, cond, _&&_, _||_}
+use mathlib.Core.Bool.{Bool, true, false, _||_}
 use mathlib.Core.List.{List, [], _∷_, _++_}
 use lib.Dec.{eqb, leb}
-use lib.ListN.{length, getD, take, drop, length-append, length-drop, take-append-drop, drop-of-length-le}
+use lib.ListN.{length, take, drop, length-append, length-drop, take-append-drop, drop-of-length-le}
 use lib.Seq.{length-take-le, take-all, take-at, drop-at, drop-drop}
-use borrow.Author.Tests.{eqb-true, eqb-false, eq-eqb, ne-eqb, leb-true, le-leb}
-use Rattle.lists.specs.Lists.{all, any, every, firstOr}
-use Rattle.lists.specs.Members.{_∈_, Each}
+use borrow.Author.Tests.{eqb-true, eq-eqb, leb-true, le-leb}
+use Rattle.lists.specs.Lists.{all}
+use Rattle.lists.specs.Members.{Each}
 use Rattle.lists.proofs.Tests.{by-test, by-either, and-true, true-and, true-or, all-each, first-passes, first-none, each-nothing, each-more, each-head, each-rest, Holding, that-is-all, _also_, every-holding, holding-every}
 use Rattle.rules.specs.declared.Message.{Message}
 use Rattle.rules.specs.RefusalNumber as refusal
 use Rattle.rules.specs.MessageType.{tag}
 use Rattle.rules.specs.Sizes.{identifierSize, messageHeaderSize, largestNumber}
 use Rattle.rules.specs.Identifiers.{Id, zeroId, sameBytes}
-use Rattle.rules.specs.Log.{low4, number4}
-use Rattle.rules.specs.Messages.{MessageType, messageType, messageTypes, managerPayload, transactionPayload, isType, payloadOf, hasTransaction, hasManager, lengthOf, fieldAt, tagIn, masterIn, connectionIn, typeIn, payloadLengthIn, reservedIn, identifierIn, whereThere, isMessage, messageIn, noMessage, readOf, isWritable, payloadBytes, messageBytes, fits, writeOf}
-use Rattle.rules.proofs.Bytes.{number-of-low, low-of-number}
+use Rattle.rules.specs.Log.{low4}
+use Rattle.rules.specs.Messages.{MessageType, messageType, messageTypes, managerPayload, transactionPayload, isType, payloadOf, hasTransaction, hasManager, lengthOf, fieldAt, tagIn, masterIn, typeIn, payloadLengthIn, whereThere, isMessage, messageIn, noMessage, readOf, isWritable, payloadBytes, messageBytes, fits, writeOf}
+use Rattle.rules.proofs.Bytes.{number-of-low, number-small, low-of-number}
 use Rattle.rules.proofs.Identifiers.{same-equal, equal-same}
 
 -- ── the table of types: a test of its rows, computed, and the law that a payload length is that of a row ────────────
@@ -159,16 +158,8 @@ field-and start {n} {bs} {rest} h l e q =
     ∙ ap (λ x. take 4 (drop start bs) ++ x) q
     ∙ part-rest 4 start bs
 
-byte-below : (bs : List ℕ) (i : ℕ) → Bytes bs → getD bs i 0 < 256
-byte-below [] i h = omega arith
-byte-below (b ∷ bs) zero h = each-head h
-byte-below (b ∷ bs) (suc i) h = byte-below bs i (each-rest h)
-
-field-below : (start : ℕ) (bs : List ℕ) → Bytes bs → fieldAt start bs ≤ largestNumber
-field-below start bs h =
-    let part = take 4 (drop start bs) in
-    let below : Bytes part = each-take 4 (drop start bs) (each-drop start bs h) in
-    omega (arith, byte-below part 0 below, byte-below part 1 below, byte-below part 2 below, byte-below part 3 below)
+field-small : (start : ℕ) (bs : List ℕ) → Bytes bs → fieldAt start bs ≤ largestNumber
+field-small start bs h = number-small (take 4 (drop start bs)) (each-take 4 (drop start bs) (each-drop start bs h))
 
 where-long : (b : Bool) (t : Id) → (b ≡ true → length t ≡ identifierSize) → length (whereThere b t) ≡ identifierSize
 where-long true t h = h refl
@@ -191,10 +182,10 @@ module _ (bs : List ℕ) (p : IsMessage bs) where
   pub read-in-range : Bytes bs → InRange (messageIn bs)
   unfolding messageIn
   read-in-range h = record {
-    master = field-below 4 bs h;
-    connection = field-below 8 bs h;
-    kind = field-below 12 bs h;
-    reserved = field-below 20 bs h;
+    master = field-small 4 bs h;
+    connection = field-small 8 bs h;
+    kind = field-small 12 bs h;
+    reserved = field-small 20 bs h;
     tx = where-long (hasTransaction (typeIn bs)) _ (λ e. part-long 16 24 bs (omega (arith, eqb-true (payloadOf (typeIn bs)) transactionPayload e)));
     rm = where-long (hasManager (typeIn bs)) _ (λ e. part-long 16 24 bs (omega (arith, eqb-true (payloadOf (typeIn bs)) managerPayload e)));
     session = where-long (hasManager (typeIn bs)) _ (λ e. part-long 16 40 bs (omega (arith, eqb-true (payloadOf (typeIn bs)) managerPayload e)));
@@ -340,6 +331,9 @@ written-is-accepted bs w =
 pub record IsRead (m : Message) : Type 0 where
   pub it : List ℕ
   pub same : readOf it ≡ record { refusal = refusal.accepted; message = m }
+
+pub accepted-has-room : (m : Message) (memory : List ℕ) → writeOf m memory .refusal ≡ refusal.accepted → lengthOf (m .kind) ≤ length memory
+accepted-has-room m memory e = leb-true _ _ (true-and (isWritable m) _ (accepted-fits m memory e) .1)
 
 pub accepted-is-read : (m : Message) (memory : List ℕ) → InRange m → writeOf m memory .refusal ≡ refusal.accepted → IsRead m
 accepted-is-read m memory r e = record { it = take (writeOf m memory .length) (writeOf m memory .memory); same = written-reads-back m memory r e }

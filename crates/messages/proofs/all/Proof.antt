@@ -1,6 +1,7 @@
--- Each answer is what `every` computes from the tests that led to it.
-use mathlib.Core.Path.{_≡_, refl, sym}
+-- Four times both is `every` of five.
+use mathlib.Core.Path.{_≡_, refl}
 use mathlib.Core.Bool.{Bool, true, false, _&&_}
+use borrow.Author.Needs.{needs}
 use Rattle.lists.specs.Lists.{every}
 use Rattle.messages.proofs.all.Statement.{statement}
 use Rattle.messages.proofs.all.Tie as tie
@@ -14,8 +15,8 @@ unfolding every
 all-spec =
     tie.close
     (tie.spec
-    (λ c. rw (c .before .before .before .if1 .taken, c .before .before .if2 .taken, c .before .if3 .taken, c .if4 .taken) (last _))
-    (λ c. simp (c .before .before .before .if1 .taken, c .before .before .if2 .taken, c .before .if3 .taken, c .if4 .left))
-    (λ c. simp (c .before .before .if1 .taken, c .before .if2 .taken, c .if3 .left))
-    (λ c. simp (c .before .if1 .taken, c .if2 .left))
-    (λ c. simp (c .if1 .left)))
+    (λ c κs. search needs)
+    (λ c κs. search needs)
+    (λ c κs. search needs)
+    (λ c κs. search needs)
+    (λ c. rw (c .both4 .ensures, c .before .both3 .ensures, c .before .before .both2 .ensures, c .before .before .before .both .ensures, ← last)))

@@ -1,4 +1,4 @@
--- Both tests, one after the other.
+-- Both tests, by the answer of the one and the computed other.
 use borrow.Author.Needs.{needs}
 use Rattle.messages.proofs.fits.Statement.{statement}
 use Rattle.messages.proofs.fits.Tie as tie
@@ -8,5 +8,5 @@ fits-spec =
     tie.close
     (tie.spec
     (λ c κs. search needs)
-    (λ c. simp (← c .before .is-writable .ensures, c .if1 .taken))
-    (λ c. simp (← c .before .is-writable .ensures, c .if1 .left)))
+    (λ c κs. search needs)
+    (λ c. rw (c .both .ensures, c .before .is-writable .ensures)))

@@ -1,10 +1,10 @@
 -- A loop that stores the 16 bytes into zeros, one a turn.
 use Prim.Native.Nat.{ℕ, _+_, _-_, _≤_, _<_}
-use mathlib.Core.Path.{_≡_, refl, sym, _∙_}
+use mathlib.Core.Path.{_≡_, sym, _∙_}
 use mathlib.Core.List.{List, append-nil}
 use native.Mathlib.Omega.{arith}
 use borrow.Author.Needs.{needs}
-use lib.ListN.{length, getD, drop, length-drop, drop-of-length-le}
+use lib.ListN.{length, getD, drop, length-drop}
 use lib.Seq.{sets, sets-eq, length-take-le, getD-take, getD-drop}
 use Rattle.rules.specs.Messages.{identifierIn}
 use Rattle.rules.specs.Identifiers.{zeroId}

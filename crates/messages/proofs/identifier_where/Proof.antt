@@ -1,5 +1,4 @@
 -- The test decides between the bytes and zeros, as the definition does.
-use borrow.Author.Needs.{needs}
 use Rattle.messages.proofs.identifier_where.Statement.{statement}
 use Rattle.messages.proofs.identifier_where.Tie as tie
 

@@ -1,12 +1,12 @@
 -- A loop that compares with zeros byte by byte: what is left of both compares as the whole does.
 use Prim.Native.Nat.{ℕ, _-_, _+_, _≤_, _<_}
-use mathlib.Core.Path.{_≡_, refl, sym, _∙_}
-use mathlib.Core.Bool.{Bool, true, false, _&&_}
-use mathlib.Core.List.{List, [], _∷_}
+use mathlib.Core.Path.{_≡_, refl, sym}
+use mathlib.Core.Bool.{true, _&&_}
+use mathlib.Core.List.{List}
 use native.Mathlib.Omega.{arith}
 use borrow.Author.Needs.{needs}
 use lib.Dec.{eqb}
-use lib.ListN.{length, getD, drop, drop-of-length-le, getD-replicate, length-replicate}
+use lib.ListN.{length, getD, drop, drop-of-length-le, getD-replicate}
 use Rattle.rules.specs.Identifiers.{sameBytes, zeroId}
 use Rattle.messages.proofs.Stores.{drop-next}
 use Rattle.messages.proofs.is_zero.Statement.{statement}

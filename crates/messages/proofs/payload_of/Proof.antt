@@ -1,4 +1,4 @@
--- A loop over the table of types, by the table's rule.
+-- A search in the table of types, by its rule.
 use Prim.Native.Nat.{_-_}
 use borrow.Author.Needs.{needs}
 use Rattle.messages.proofs.Types.{table, Sought, sought-start, sought-next, sought-here, sought-end}
@@ -15,8 +15,8 @@ payload-of-spec =
     (λ c. sought-start)
     (λ c. search needs)
     (λ c. search needs)
-    (λ c. sought-here (c .before .before .before .before .loop .inv) (c .before .before .before .loop-test .taken) _ (c .if1 .taken))
+    (λ c. sought-here _ (c .before .before .before .before .loop .inv) (c .before .before .before .loop-test .taken) (c .if1 .taken))
     (λ c. search needs)
     (λ c. search needs)
-    (λ c. sought-next (c .before .before .before .before .loop .inv) (c .before .before .before .loop-test .taken) _ (c .if1 .left))
+    (λ c. sought-next _ (c .before .before .before .before .loop .inv) (c .before .before .before .loop-test .taken) (c .if1 .left))
     (λ c. sought-end (c .before .loop .inv) (c .loop-test .left)))

@@ -1,5 +1,4 @@
 -- Six stores of four bytes, one behind the other.
-use native.Mathlib.Omega.{arith}
 use borrow.Author.Needs.{needs}
 use Rattle.messages.proofs.put_header.Statement.{statement}
 use Rattle.messages.proofs.put_header.Tie as tie

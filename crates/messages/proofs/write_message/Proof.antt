@@ -13,7 +13,6 @@ use Rattle.lists.proofs.Tests.{true-and}
 use Rattle.rules.specs.declared.Message.{Message}
 use Rattle.rules.specs.Messages.{payloadOf, isWritable, payloadBytes, messageBytes, fits, writeOf}
 use Rattle.messages.specs.Promises.{IsWriting, headerBytes}
-use Rattle.messages.proofs.Stores.{sets-append}
 use Rattle.messages.proofs.write_message.Statement.{statement}
 use Rattle.messages.proofs.write_message.Tie as tie
 
