@@ -19,3 +19,4 @@ pub mod Own
 pub mod Used
 pub mod Count
 pub mod Preserved
+pub mod MessageLaws
