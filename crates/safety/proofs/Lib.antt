@@ -14,3 +14,4 @@ pub mod Reenlisted
 pub mod Steps
 pub mod Restarts
 pub mod Safety
+pub mod Samples

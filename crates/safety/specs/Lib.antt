@@ -3,3 +3,5 @@ pub mod World
 pub mod Host
 pub mod Run
 pub mod Demand3
+-- Sample runs
+pub mod Words
