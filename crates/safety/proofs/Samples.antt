@@ -1,5 +1,6 @@
 -- Runs that the checker computes, so that the claim is not an empty one: they reach committed messages and aborted ones.
 use Prim.Native.Nat.{ℕ}
+use native.Mathlib.Omega.{arith}
 use mathlib.Core.Path.{_≡_, refl}
 use mathlib.Core.Logic.{inl, inr}
 use mathlib.Core.List.{List, [], _∷_, _++_, List·Memᴰ·head, List·Memᴰ·not-nil}
@@ -14,7 +15,7 @@ use Rattle.rules.specs.Step.{stepOf}
 use Rattle.rules.specs.Restart.{restartOf}
 use Rattle.rules.proofs.Computing.{computing}
 use Rattle.safety.specs.World.{Note, Issued, World, told, messageOf, usedPart, empty, afterStep, withDisk, afterLeaving, afterRestart}
-use Rattle.safety.specs.Host.{careful, Makes}
+use Rattle.safety.specs.Host.{careful, Makes, now}
 use Rattle.safety.specs.Run.{Run, start, step, store, trim, leave, restart}
 use Rattle.safety.specs.Demand3.{Committed, Aborted, About}
 use Rattle.safety.specs.Words.{id, begin, enlist, enlistSingle, commit, rollback, votes, replies, ack, lost, ask, spare}
@@ -50,3 +51,58 @@ two-phase = (_,
   where
     it : Issued
     it = record { image = header ++ record-of-7; message = record { about = id 7; name = name.Commit; number = 1 } }
+
+-- ── in single phase ─────────────────────────────────────────────────────────────────────────────────────────────
+
+single-phase : Reaches (λ w. About (id 7) Committed (w .sent))
+unfolding computing told messageOf empty afterStep withDisk afterLeaving afterRestart
+single-phase = (_,
+    leave (stores (does (does (does (does (restarts start spare)
+    (begin 7) (λ m. List·Memᴰ·not-nil m)) (enlistSingle 7 1 21) tt) (commit 7) tt) (replies 1 reply.Committed) tt)
+    header [] refl) it (List·Memᴰ·head refl) ([], refl),
+    record { it = it; there = List·Memᴰ·head refl; holds = (refl, inr (inl refl)) })
+  where
+    it : Issued
+    it = record { image = header; message = record { about = id 7; name = name.AppCommitted; number = 0 } }
+
+-- ── through a cut, a restart and an ask ─────────────────────────────────────────────────────────────────────────
+
+restart-and-ask : Reaches (λ w. About (id 7) Committed (w .sent))
+unfolding computing told messageOf empty afterStep withDisk afterLeaving afterRestart record-of-7
+restart-and-ask = (_,
+    leave (does (restarts (stores (does (does (does (does (restarts start spare)
+    (begin 7) (λ m. List·Memᴰ·not-nil m)) (enlist 7 1 21) tt) (commit 7) tt) (votes 1 vote.Prepared) tt)
+    (header ++ record-of-7) [] refl) spare) (ask 7 21) (now (1, refl)))
+    it (List·Memᴰ·head refl) ([], refl),
+    record { it = it; there = List·Memᴰ·head refl; holds = (refl, inr (inr refl)) })
+  where
+    it : Issued
+    it = record { image = header ++ record-of-7; message = record { about = id 7; name = name.AnswerCommitted; number = 1 } }
+
+-- ── aborted ─────────────────────────────────────────────────────────────────────────────────────────────────────
+
+rolled-back : Reaches (λ w. About (id 7) Aborted (w .sent))
+unfolding computing told messageOf empty afterStep withDisk afterLeaving afterRestart
+rolled-back = (_,
+    leave (stores (does (does (does (restarts start spare)
+    (begin 7) (λ m. List·Memᴰ·not-nil m)) (enlist 7 1 21) tt) (rollback 7) tt)
+    header [] refl) it (List·Memᴰ·head refl) ([], refl),
+    record { it = it; there = List·Memᴰ·head refl; holds = (refl, inl refl) })
+  where
+    it : Issued
+    it = record { image = header; message = record { about = id 7; name = name.Abort; number = 1 } }
+
+-- ── power fails inside the commit record: 20 of its 38 bytes are stored, and the resource manager asks ──────────
+
+inside-the-record : Reaches (λ w. About (id 7) Aborted (w .sent))
+unfolding computing told messageOf empty afterStep withDisk afterLeaving afterRestart record-of-7
+inside-the-record = (_,
+    leave (does (trim (restarts (stores (does (does (does (does (restarts start spare)
+    (begin 7) (λ m. List·Memᴰ·not-nil m)) (enlist 7 1 21) tt) (commit 7) tt) (votes 1 vote.Prepared) tt)
+    (header ++ take 20 record-of-7) (drop 20 record-of-7) refl) spare) header ((λ z. omega arith), [], take 20 record-of-7, refl, refl))
+    (ask 7 21) (now (1, refl)))
+    it (List·Memᴰ·head refl) ([], refl),
+    record { it = it; there = List·Memᴰ·head refl; holds = (refl, inr (inr refl)) })
+  where
+    it : Issued
+    it = record { image = header; message = record { about = id 7; name = name.AnswerAborted; number = 0 } }
