@@ -15,3 +15,4 @@ pub mod Steps
 pub mod Restarts
 pub mod Safety
 pub mod Samples
+pub mod Pinned

@@ -4,8 +4,7 @@ use native.Mathlib.Omega.{arith}
 use mathlib.Core.Path.{_≡_, refl}
 use mathlib.Core.Logic.{inl, inr}
 use mathlib.Core.List.{List, [], _∷_, _++_, List·Memᴰ·head, List·Memᴰ·not-nil}
-use lib.ListN.{length, take, drop, replicate}
-use Rattle.lists.specs.Members.{_∈_}
+use lib.ListN.{length, take, drop}
 use Rattle.rules.specs.declared.Event.{Event}
 use Rattle.rules.specs.declared.Vote.the-variants as vote
 use Rattle.rules.specs.declared.Reply.the-variants as reply
@@ -14,11 +13,11 @@ use Rattle.rules.specs.Log.{header}
 use Rattle.rules.specs.Step.{stepOf}
 use Rattle.rules.specs.Restart.{restartOf}
 use Rattle.rules.proofs.Computing.{computing}
-use Rattle.safety.specs.World.{Note, Issued, World, told, messageOf, usedPart, empty, afterStep, withDisk, afterLeaving, afterRestart}
+use Rattle.safety.specs.World.{Issued, World, told, messageOf, usedPart, empty, afterStep, withDisk, afterLeaving, afterRestart}
 use Rattle.safety.specs.Host.{careful, Makes, now}
 use Rattle.safety.specs.Run.{Run, start, step, store, trim, leave, restart}
 use Rattle.safety.specs.Demand3.{Committed, Aborted, About}
-use Rattle.safety.specs.Words.{id, begin, enlist, enlistSingle, commit, rollback, votes, replies, ack, lost, ask, spare}
+use Rattle.safety.specs.Words.{id, begin, enlist, enlistSingle, commit, rollback, votes, replies, ask, spare}
 
 -- ── the moves of the careful host ───────────────────────────────────────────────────────────────────────────────
 
@@ -43,11 +42,13 @@ record-of-7 = 1 ∷ 1 ∷ id 7 ++ (id 21 ++ (1 ∷ 0 ∷ 0 ∷ 0 ∷ []))
 
 two-phase : Reaches (λ w. About (id 7) Committed (w .sent))
 unfolding computing told messageOf empty afterStep withDisk afterLeaving afterRestart record-of-7
-two-phase = (_,
-    leave (stores (does (does (does (does (restarts start spare)
-    (begin 7) (λ m. List·Memᴰ·not-nil m)) (enlist 7 1 21) tt) (commit 7) tt) (votes 1 vote.Prepared) tt)
-    (header ++ record-of-7) [] refl) it (List·Memᴰ·head refl) ([], refl),
-    record { it = it; there = List·Memᴰ·head refl; holds = (refl, inl refl) })
+two-phase = (
+  _,
+  leave (stores (does (does (does (does (restarts start spare)
+      (begin 7) (λ m. List·Memᴰ·not-nil m)) (enlist 7 1 21) tt) (commit 7) tt) (votes 1 vote.Prepared) tt)
+      (header ++ record-of-7) [] refl) it (List·Memᴰ·head refl) ([], refl),
+  record { it = it; there = List·Memᴰ·head refl; holds = (refl, inl refl) },
+)
   where
     it : Issued
     it = record { image = header ++ record-of-7; message = record { about = id 7; name = name.Commit; number = 1 } }
@@ -56,11 +57,13 @@ two-phase = (_,
 
 single-phase : Reaches (λ w. About (id 7) Committed (w .sent))
 unfolding computing told messageOf empty afterStep withDisk afterLeaving afterRestart
-single-phase = (_,
-    leave (stores (does (does (does (does (restarts start spare)
-    (begin 7) (λ m. List·Memᴰ·not-nil m)) (enlistSingle 7 1 21) tt) (commit 7) tt) (replies 1 reply.Committed) tt)
-    header [] refl) it (List·Memᴰ·head refl) ([], refl),
-    record { it = it; there = List·Memᴰ·head refl; holds = (refl, inr (inl refl)) })
+single-phase = (
+  _,
+  leave (stores (does (does (does (does (restarts start spare)
+      (begin 7) (λ m. List·Memᴰ·not-nil m)) (enlistSingle 7 1 21) tt) (commit 7) tt) (replies 1 reply.Committed) tt)
+      header [] refl) it (List·Memᴰ·head refl) ([], refl),
+  record { it = it; there = List·Memᴰ·head refl; holds = (refl, inr (inl refl)) },
+)
   where
     it : Issued
     it = record { image = header; message = record { about = id 7; name = name.AppCommitted; number = 0 } }
@@ -69,12 +72,14 @@ single-phase = (_,
 
 restart-and-ask : Reaches (λ w. About (id 7) Committed (w .sent))
 unfolding computing told messageOf empty afterStep withDisk afterLeaving afterRestart record-of-7
-restart-and-ask = (_,
-    leave (does (restarts (stores (does (does (does (does (restarts start spare)
-    (begin 7) (λ m. List·Memᴰ·not-nil m)) (enlist 7 1 21) tt) (commit 7) tt) (votes 1 vote.Prepared) tt)
-    (header ++ record-of-7) [] refl) spare) (ask 7 21) (now (1, refl)))
-    it (List·Memᴰ·head refl) ([], refl),
-    record { it = it; there = List·Memᴰ·head refl; holds = (refl, inr (inr refl)) })
+restart-and-ask = (
+  _,
+  leave (does (restarts (stores (does (does (does (does (restarts start spare)
+      (begin 7) (λ m. List·Memᴰ·not-nil m)) (enlist 7 1 21) tt) (commit 7) tt) (votes 1 vote.Prepared) tt)
+      (header ++ record-of-7) [] refl) spare) (ask 7 21) (now (1, refl)))
+      it (List·Memᴰ·head refl) ([], refl),
+  record { it = it; there = List·Memᴰ·head refl; holds = (refl, inr (inr refl)) },
+)
   where
     it : Issued
     it = record { image = header ++ record-of-7; message = record { about = id 7; name = name.AnswerCommitted; number = 1 } }
@@ -83,11 +88,13 @@ restart-and-ask = (_,
 
 rolled-back : Reaches (λ w. About (id 7) Aborted (w .sent))
 unfolding computing told messageOf empty afterStep withDisk afterLeaving afterRestart
-rolled-back = (_,
-    leave (stores (does (does (does (restarts start spare)
-    (begin 7) (λ m. List·Memᴰ·not-nil m)) (enlist 7 1 21) tt) (rollback 7) tt)
-    header [] refl) it (List·Memᴰ·head refl) ([], refl),
-    record { it = it; there = List·Memᴰ·head refl; holds = (refl, inl refl) })
+rolled-back = (
+  _,
+  leave (stores (does (does (does (restarts start spare)
+      (begin 7) (λ m. List·Memᴰ·not-nil m)) (enlist 7 1 21) tt) (rollback 7) tt)
+      header [] refl) it (List·Memᴰ·head refl) ([], refl),
+  record { it = it; there = List·Memᴰ·head refl; holds = (refl, inl refl) },
+)
   where
     it : Issued
     it = record { image = header; message = record { about = id 7; name = name.Abort; number = 1 } }
@@ -96,13 +103,15 @@ rolled-back = (_,
 
 inside-the-record : Reaches (λ w. About (id 7) Aborted (w .sent))
 unfolding computing told messageOf empty afterStep withDisk afterLeaving afterRestart record-of-7
-inside-the-record = (_,
-    leave (does (trim (restarts (stores (does (does (does (does (restarts start spare)
-    (begin 7) (λ m. List·Memᴰ·not-nil m)) (enlist 7 1 21) tt) (commit 7) tt) (votes 1 vote.Prepared) tt)
-    (header ++ take 20 record-of-7) (drop 20 record-of-7) refl) spare) header ((λ z. omega arith), [], take 20 record-of-7, refl, refl))
-    (ask 7 21) (now (1, refl)))
-    it (List·Memᴰ·head refl) ([], refl),
-    record { it = it; there = List·Memᴰ·head refl; holds = (refl, inr (inr refl)) })
+inside-the-record = (
+  _,
+  leave (does (trim (restarts (stores (does (does (does (does (restarts start spare)
+      (begin 7) (λ m. List·Memᴰ·not-nil m)) (enlist 7 1 21) tt) (commit 7) tt) (votes 1 vote.Prepared) tt)
+      (header ++ take 20 record-of-7) (drop 20 record-of-7) refl) spare) header ((λ z. omega arith), [], take 20 record-of-7, refl, refl))
+      (ask 7 21) (now (1, refl)))
+      it (List·Memᴰ·head refl) ([], refl),
+  record { it = it; there = List·Memᴰ·head refl; holds = (refl, inr (inr refl)) },
+)
   where
     it : Issued
     it = record { image = header; message = record { about = id 7; name = name.AnswerAborted; number = 0 } }

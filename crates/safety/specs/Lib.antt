@@ -3,5 +3,7 @@ pub mod World
 pub mod Host
 pub mod Run
 pub mod Demand3
+-- Each premise is needed
+pub mod Premises
 -- Sample runs
 pub mod Words
