@@ -16,3 +16,4 @@ pub mod Restarts
 pub mod Safety
 pub mod Samples
 pub mod Pinned
+pub mod Memory
