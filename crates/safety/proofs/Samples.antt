@@ -115,3 +115,18 @@ inside-the-record = (
   where
     it : Issued
     it = record { image = header; message = record { about = id 7; name = name.AnswerAborted; number = 0 } }
+
+-- ── power fails inside the header: 3 of its 8 bytes are stored ──────────────────────────────────────────────────
+
+inside-the-header : Reaches (λ w. About (id 7) Committed (w .sent))
+unfolding computing told messageOf empty afterStep withDisk afterLeaving afterRestart
+inside-the-header = (
+  _,
+  leave (stores (does (does (restarts (stores (restarts start spare) (take 3 header) (drop 3 header) refl) spare)
+      (begin 7) (λ m. List·Memᴰ·not-nil m)) (commit 7) tt)
+      (drop 3 header) [] refl) it (List·Memᴰ·head refl) ([], refl),
+  record { it = it; there = List·Memᴰ·head refl; holds = (refl, inr (inl refl)) },
+)
+  where
+    it : Issued
+    it = record { image = header; message = record { about = id 7; name = name.AppCommitted; number = 0 } }
