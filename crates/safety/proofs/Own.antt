@@ -12,7 +12,7 @@ use borrow.Author.Tests.{eqb-true, eqb-false, eq-eqb, ne-eqb, ltb-false}
 use Rattle.lists.specs.Members.{_∈_, Each, Some}
 use Rattle.lists.specs.Lists.{all, any, none, filter}
 use Rattle.lists.specs.Sorting.{insertBy, sortBy}
-use Rattle.lists.proofs.Tests.{by-test, by-either, no-clash, true-and, not-true, not-false, in-filter, of-filter, length-filter, in-map, all-each, any-some, none-each, each-nothing, each-more, each-head, each-rest, each-map}
+use Rattle.lists.proofs.Tests.{by-test, by-either, no-clash, true-and, not-true, not-false, in-filter, of-filter, length-filter, in-map, of-map, all-each, any-some, none-each, each-nothing, each-more, each-head, each-rest, each-map}
 use Rattle.lists.proofs.Sorting.{in-sort, of-sort, length-sort}
 use Rattle.rules.specs.declared.Enlistment.{Enlistment}
 use Rattle.rules.specs.declared.Table.{Table}
@@ -36,10 +36,10 @@ use Rattle.safety.specs.World.{Note, noteOf, messageOf, subjectOf}
 use Rattle.safety.specs.Host.{Prepares, Closes, careful, Makes}
 use Rattle.safety.specs.Demand3.{Committed}
 use Rattle.safety.proofs.Alone as alone
-use Rattle.safety.proofs.Alone.{Story, closed, early, voting, aborting, Hopes, Waits, Unasked, Preparing, NoDurable, New}
+use Rattle.safety.proofs.Alone.{Story, closed, early, voting, aborting, Hopes, Waits, Unasked, Preparing, NoDurable, managersOf, Entered, New}
 use Rattle.safety.proofs.Move.{Calm, NotEnlisted, VoteOf, Doomed, d-voting, d-aborting, g-out, g-aborting, Move, prepare, ask-one, commit-empty, decide-logged, decide-unlogged, decide-empty, abort, told-on, end-logged, end-unlogged}
 use Rattle.safety.proofs.Top.{Agrees}
-use Rattle.safety.proofs.Story.{next, story, managersOf, onForget}
+use Rattle.safety.proofs.Story.{next, story, onForget}
 use Rattle.safety.proofs.View.{viewOf, view-goes, goes-other, view-ends, ends-other, view-more, stands-held}
 use Rattle.safety.proofs.Messages.{notCommitted, notAborted, Only, only-nothing, only-one, only-each, only-both, Addressed, Owned, owned-about, addressed-nothing, addressed-one, addressed-each, addressed-both, none-committed, none-aborted, quiet}
 
@@ -167,6 +167,11 @@ module _ (tb : Table) (e : Event) (log : List ℕ) (t : Id) (p : ℕ) (tb₁ : T
     pub hopes : (r : Id) → Some (Hopes r) hs → Some (Hopes r) hs₁
     pub prepares : (r : Id) → Prepares t r x → Some (Hopes r) hs₁
 
+  committed-number : (x : Enlistment) → committedOf x .number ≡ x .number
+  unfolding committedOf
+  committed-number x = by-cases (λ (y : Enlistment). y .number ≡ x .number) (isIn enlistment.prepared x) _ _ (λ _. refl) (λ _.
+      by-cases (λ (y : Enlistment). y .number ≡ x .number) (isIn enlistment.preparedLost x) (inState enlistment.failedToNotify x) x (λ _. refl) (λ _. refl))
+
   committed-kept : (x : Enlistment) → (committedOf x .holder ≡ x .holder) × (committedOf x .kind ≡ x .kind)
   unfolding committedOf
   committed-kept x = by-cases (λ (y : Enlistment). (y .holder ≡ x .holder) × (y .kind ≡ x .kind)) (isIn enlistment.prepared x) _ _ (λ _. (refl, refl)) (λ _.
@@ -265,6 +270,14 @@ module _ (tb : Table) (e : Event) (log : List ℕ) (t : Id) (p : ℕ) (tb₁ : T
       unfolding entries ds
       listed q w = Memᴰ·cast (sym (w .holds .1)) (in-map (λ e. e .rm) (in-map entryOf (in-sort byNumber (filter isDurable hs₁) (in-filter isDurable hs₁ (w .there) (eq-eqb (w .it .kind) kind.durable (w .holds .0))))))
 
+      entered : Entered entries (held p (changeHeld p committedOf tb₁))
+      unfolding entries ds
+      entered d m = go (of-map entryOf ds m)
+        where
+          go : Some (λ x. entryOf x ≡ d) ds → Some (λ x. x .number ≡ d .number) (held p (changeHeld p committedOf tb₁))
+          go w = held-own (λ x. x .number ≡ d .number) (λ x. x .number ≡ d .number) p committedOf tb₁ (λ x _ q. (committed-number x ∙ q, committed-kept x .0))
+              (record { it = w .it; there = of-filter isDurable hs₁ (of-sort byNumber (filter isDurable hs₁) (w .there)) .0; holds = ap (λ (y : Entry). y .number) (w .holds) })
+
       size : length (recordBytes (Record.commit t entries)) ≡ commitSize (length (filter isDurable hs₁))
       unfolding recordBytes
       size = rw (length-append t (entriesBytes entries), id-size, entries-size entries entries-ok, as-many) (omega arith)
@@ -279,9 +292,10 @@ module _ (tb : Table) (e : Event) (log : List ℕ) (t : Id) (p : ℕ) (tb₁ : T
         other-view = λ u n. view-more u (length bs) (committing p tb₁) ∙ goes-other t p tb₁ (z .stands) transaction.committing committedOf u keeps-committed n ∙ z .other-view u n;
         addressed = commit-home;
         move = λ h f l a. rw (isv, view-more t (length bs) (committing p tb₁) ∙ view-goes t p tb₁ (z .stands) transaction.committing committedOf (λ q. omega arith))
-            (decide-logged {rs = managersOf entries} (rw (same-refl t, rw isv at a) refl) (v .calm) (none-aborted t tb e (commitSignals hs₁) commit-not-aborted) all-voted
+            (decide-logged {rs = entries} (rw (same-refl t, rw isv at a) refl) (v .calm) (none-aborted t tb e (commitSignals hs₁) commit-not-aborted) all-voted
             (λ q w. (held-own (Hopes q) (Waits q) p committedOf tb₁ (λ x _ y. (commit-waits q x y, committed-kept x .0)) (hoping q w), listed q (hoping q w)))
-            (held-own Durable Durable p committedOf tb₁ (λ x _ k. (committed-kept x .1 ∙ k, committed-kept x .0)) durables));
+            (held-own Durable Durable p committedOf tb₁ (λ x _ k. (committed-kept x .1 ∙ k, committed-kept x .0)) durables)
+            entered);
       })
         where
           bs : List ℕ
@@ -313,6 +327,7 @@ module _ (tb : Table) (e : Event) (log : List ℕ) (t : Id) (p : ℕ) (tb₁ : T
     pub waits : (r : Id) → Some (Waits r) hs → Some (Waits r) hs₁ ⊎ Closes t r x
     pub durable : Some Durable hs → Some Durable hs₁
     pub no-durable : NoDurable hs → NoDurable hs₁
+    pub numbers : (n : ℕ) → Some (λ y. y .number ≡ n) hs → Some (λ y. y .number ≡ n) hs₁
 
   module _ (hs : List Enlistment) (isv : viewOf t tb ≡ alone.committing hs) (st : stateAt p tb₁ ≡ transaction.committing) (w : Told hs (noteOf tb e)) (id-size : length t ≡ identifierSize) where
     not-done : (r : Id) (x : Enlistment) → Waits r x → x .state ≡ enlistment.done → ⊥
@@ -323,7 +338,7 @@ module _ (tb : Table) (e : Event) (log : List ℕ) (t : Id) (p : ℕ) (tb₁ : T
     closing dn r (inr c) = c
 
     closes : (l : Story) → Agrees (alone.committing hs) l → Some Durable hs₁ → onForget l ≡ closed
-    closes l (inl (rs, q, y)) d = rw q refl
+    closes l (inl (rs, q, y, n)) d = rw q refl
     closes l (inr (q, y)) d = absurd (w .no-durable y (d .it) (d .there) (d .holds))
 
     end-durable : any isDurable hs₁ ≡ true → all isDone hs₁ ≡ true → tb₁ .used + forgetSize ≤ length log → O (append (Record.forget (idAt p tb₁)) (emptied p tb₁) log)
@@ -352,7 +367,7 @@ module _ (tb : Table) (e : Event) (log : List ℕ) (t : Id) (p : ℕ) (tb₁ : T
 
     end-waits : viewOf t tb₁ ≡ alone.committing hs₁ → O (quietly tb₁ log)
     end-waits isv₁ = unlogged tb₁ [] (addressed-nothing tb e) refl (λ u n. refl)
-        (λ h f l a. rw (isv, isv₁) (told-on refl (w .calm) (none-aborted t tb e [] (only-nothing notAborted)) (w .waits) (w .durable) (w .no-durable)))
+        (λ h f l a. rw (isv, isv₁) (told-on refl (w .calm) (none-aborted t tb e [] (only-nothing notAborted)) (w .waits) (w .durable) (w .no-durable) (w .numbers)))
 
     pub own-end-committing : viewOf t tb₁ ≡ alone.committing hs₁ → (any isDurable hs₁ ≡ true → tb₁ .used + forgetSize ≤ length log) → O (endIfDone p tb₁ log)
     unfolding endIfDone endOf

@@ -321,6 +321,10 @@ module _ (tb : Table) (log : List ℕ) (n : ℕ) (s : Sound tb) (full : length l
   durable-stays k h = held-own Durable Durable p (onNumber n (inState k)) tb
       (λ e m q. by-cases (λ (w : Enlistment). Durable w × (w .holder ≡ e .holder)) (isNumbered n e) (inState k e) e (λ _. (q, refl)) (λ _. (q, refl))) h
 
+  numbers-stay : (k m : ℕ) → Some (λ e. e .number ≡ m) hs → Some (λ e. e .number ≡ m) (held p (changed (inState k)))
+  numbers-stay k m h = held-own (λ e. e .number ≡ m) (λ e. e .number ≡ m) p (onNumber n (inState k)) tb
+      (λ e i q. by-cases (λ (w : Enlistment). (w .number ≡ m) × (w .holder ≡ e .holder)) (isNumbered n e) (inState k e) e (λ _. (q, refl)) (λ _. (q, refl))) h
+
   durable-came : (k : ℕ) {w : Enlistment} → w ∈ held p (changed (inState k)) → Durable w → Some Durable hs
   durable-came k {w} m d = record { it = c .it; there = c .there; holds = sym (same (c .it)) ∙ sym (ap (λ (e : Enlistment). e .kind) (c .holds)) ∙ d }
     where
@@ -360,6 +364,7 @@ module _ (tb : Table) (log : List ℕ) (n : ℕ) (s : Sound tb) (full : length l
           waits = λ r h. by-either inl (λ q. inr (rw (q .0) at (closes (q .1)))) (waits-stays enlistment.done r h);
           durable = durable-stays enlistment.done;
           no-durable = none-stays enlistment.done;
+          numbers = numbers-stay enlistment.done;
         })
         (own-id-size tb s t p (nm .stands)) (view-after (inState enlistment.done) transaction.committing st) (room-after enlistment.done st)
 
@@ -464,7 +469,7 @@ module _ (tb : Table) (log : List ℕ) (n : ℕ) (s : Sound tb) (full : length l
       (λ h made l g. rw (view-before transaction.committing five, view-after (inState enlistment.failedToNotify) transaction.committing five)
       (told-on refl (nothing-calm t) (none-aborted t tb lost [] (only-nothing notAborted))
       (λ r w. inl (held-own (Waits r) (Waits r) p (onNumber n (inState enlistment.failedToNotify)) tb (λ e m q. by-cases (λ (v : Enlistment). Waits r v × (v .holder ≡ e .holder)) (isNumbered n e) (inState enlistment.failedToNotify e) e (λ _. ((q .0, q .1, inr refl), refl)) (λ _. (q, refl))) w))
-      (durable-stays enlistment.failedToNotify) (none-stays enlistment.failedToNotify)))
+      (durable-stays enlistment.failedToNotify) (none-stays enlistment.failedToNotify) (numbers-stay enlistment.failedToNotify)))
     where
       five : stateAt p tb ≡ transaction.committing
       five = of-commit (stateAt p tb) me (nm .line) (inl st)

@@ -46,6 +46,9 @@ module _ (r : Id) where
   done-kept : (e : Enlistment) → (doneFor r e .holder ≡ e .holder) × (doneFor r e .kind ≡ e .kind)
   done-kept e = by-cases (λ (w : Enlistment). (w .holder ≡ e .holder) × (w .kind ≡ e .kind)) (isDurableOf r e && isIn enlistment.failedToNotify e) (inState enlistment.done e) e (λ _. (refl, refl)) (λ _. (refl, refl))
 
+  done-number : (e : Enlistment) → doneFor r e .number ≡ e .number
+  done-number e = by-cases (λ (w : Enlistment). w .number ≡ e .number) (isDurableOf r e && isIn enlistment.failedToNotify e) (inState enlistment.done e) e (λ _. refl) (λ _. refl)
+
   -- what was not Done and is, was r's, durable, and in Failed-to-notify
   done-now : (e : Enlistment) → isDone (doneFor r e) ≡ true → (isDone e ≡ true) ⊎ ((isDurableOf r e && isIn enlistment.failedToNotify e) ≡ true)
   done-now e d = by-test (isDurableOf r e && isIn enlistment.failedToNotify e) (λ b. inr b) (λ b. inl (rw b at d))
@@ -204,7 +207,7 @@ module _ (r : Id) (tb : Table) (log : List ℕ) (s : Sound tb) (full : length lo
             still v d = by-either (λ y. omega (arith, y, d)) (λ y. omega (arith, y, d)) (v .2)
 
         is-closed : Agrees (alone.committing hs) l → onForget l ≡ closed
-        is-closed (inl (rs, q, y)) = rw q refl
+        is-closed (inl (rs, q, y, n)) = rw q refl
         is-closed (inr (q, y)) = absurd (y (has-durable .it) (has-durable .there) (has-durable .holds))
 
         ends : M (viewOf t tb) Result
@@ -227,7 +230,8 @@ module _ (r : Id) (tb : Table) (log : List ℕ) (s : Sound tb) (full : length lo
             (told-on (seen .tale l) calm (silent .no-aborted)
             (λ q w. by-either (λ v. inl (record { it = doneFor r (w .it); there = in-map (doneFor r) (w .there); holds = v })) (λ e. inr (inr (ap Note.reenlisted (sym e)))) (done-waits r q (w .it) (w .holds)))
             (λ w. record { it = doneFor r (w .it); there = in-map (doneFor r) (w .there); holds = done-kept r (w .it) .1 ∙ w .holds })
-            (λ nd e m d. let c : Some (λ w. doneFor r w ≡ e) hs = of-map (doneFor r) hs m in nd (c .it) (c .there) (sym (done-kept r (c .it) .1) ∙ ap (λ (w : Enlistment). w .kind) (c .holds) ∙ d)))
+            (λ nd e m d. let c : Some (λ w. doneFor r w ≡ e) hs = of-map (doneFor r) hs m in nd (c .it) (c .there) (sym (done-kept r (c .it) .1) ∙ ap (λ (w : Enlistment). w .kind) (c .holds) ∙ d))
+            (λ n w. record { it = doneFor r (w .it); there = in-map (doneFor r) (w .there); holds = done-number r (w .it) ∙ w .holds }))
 
         -- before the decision, and after an abort, none is in Failed-to-notify
         unmoved : (stateAt p tb ≡ transaction.committing → ⊥) → map (doneFor r) hs ≡ hs

@@ -27,10 +27,10 @@ use Rattle.rules.specs.Restart.{Open, isOpenAs, openAfter, reopened, reenlistme
 use Rattle.rules.proofs.Records.{Valid, Cut, cut, scan-all, behind-all}
 use Rattle.rules.proofs.Refused.{refused-restart}
 use Rattle.rules.proofs.Frames.{in-held, none-absent}
-use Rattle.safety.proofs.Alone.{Story, none, open-with, closed, bad, out, committing, Waits}
+use Rattle.safety.proofs.Alone.{Story, none, open-with, closed, bad, out, committing, Waits, managersOf}
 use Rattle.safety.proofs.Cut.{Restored}
 use Rattle.safety.proofs.Top.{Restores}
-use Rattle.safety.proofs.Story.{story, storyOf, managersOf, Formed, header-formed, story-formed, valid-front, mine, Tells, tells}
+use Rattle.safety.proofs.Story.{story, storyOf, Formed, header-formed, story-formed, valid-front, mine, Tells, tells}
 use Rattle.safety.proofs.View.{viewOf, view-absent}
 use Rattle.safety.proofs.Own.{by-cases}
 
@@ -116,7 +116,7 @@ module _ (t : Id) where
   restored none os capacity used h = out-of capacity used os h
   restored (open-with rs) os capacity used (o, h, q, n) =
       let l : Reopened 1 os (replicate (transactionPlaces - length os) noTransaction) o = one-open 1 os (replicate (transactionPlaces - length os) noTransaction) o h in
-      (held (l .p) (tableOf capacity used os), view-open capacity used os o l, (λ r m. waits-open capacity used os o l r (rw (← q) at m)), durable-open capacity used os o l (o .entries) refl n)
+      (held (l .p) (tableOf capacity used os), view-open capacity used os o l, (λ r m. waits-open capacity used os o l r (rw (← q) at m)), durable-open capacity used os o l (o .entries) refl n, (λ d m. record { it = reenlistment (l .p) d; there = held-open capacity used os o l d (rw (← q) at m); holds = refl }))
   restored closed os capacity used h = out-of capacity used os h
   restored bad os capacity used h = tt
 

@@ -15,13 +15,14 @@ use Rattle.rules.specs.declared.Vote.the-variants as vote
 use Rattle.rules.specs.Kinds as kind
 use Rattle.rules.specs.Sound.{Durable}
 use Rattle.rules.specs.Identifiers.{Id}
+use Rattle.rules.specs.Log.{Entry}
 use Rattle.rules.specs.Step.{Step, stepOf}
 use Rattle.rules.specs.Restart.{Restart, restartOf}
 use Rattle.safety.specs.World.{Note, Message, Issued, World, noteOf, messageOf, usedPart, empty, afterStep, withDisk, afterLeaving, afterRestart}
 use Rattle.safety.specs.Host.{MayAsk, careful, Makes, MoreStored, Trimmed}
 use Rattle.safety.specs.Run.{Run, start, step, store, trim, leave, restart}
 use Rattle.safety.specs.Demand3.{Committed, Aborted, Safe, Demand3}
-use Rattle.safety.proofs.Alone.{Story, none, open-with, bad, Below, below-trans, below-both, View, out, early, voting, single, committing, aborting, NoDurable, Any, Base, Shape}
+use Rattle.safety.proofs.Alone.{Story, none, open-with, bad, Below, below-trans, below-both, View, out, early, voting, single, committing, aborting, NoDurable, Entered, Any, Base, Shape}
 use Rattle.safety.proofs.Move.{Calm, Quiet, Move, keep-base, keep-shape, make-stay, stay-shape}
 use Rattle.safety.proofs.Cut.{Restored, keep-store, keep-leave, shape-leave, keep-restart, shape-restart}
 
@@ -33,7 +34,7 @@ Agrees out l = Unit {0}
 Agrees (early es) l = l ≡ none
 Agrees (voting es) l = l ≡ none
 Agrees (single es) l = l ≡ none
-Agrees (committing es) l = ((rs : List Id) × (l ≡ open-with rs) × Some Durable es) ⊎ ((l ≡ none) × NoDurable es)
+Agrees (committing es) l = ((rs : List Entry) × (l ≡ open-with rs) × Some Durable es × Entered rs es) ⊎ ((l ≡ none) × NoDurable es)
 Agrees aborting l = l ≡ none
 
 pub record Refused (tb : Table) (log : List ℕ) (s : Step) : Type 0 where
