@@ -17,3 +17,4 @@ pub mod Safety
 pub mod Samples
 pub mod Pinned
 pub mod Memory
+pub mod Open
