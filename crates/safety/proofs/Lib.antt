@@ -18,3 +18,4 @@ pub mod Samples
 pub mod Pinned
 pub mod Memory
 pub mod Open
+pub mod Reopened

@@ -1,22 +1,21 @@
 -- The open transactions of a log that is not damaged: what the judgements at each record say of them together.
-use Prim.Native.Nat.{ℕ, suc, _+_, _≤_, _<_}
+use Prim.Native.Nat.{ℕ, _+_, _≤_, _<_}
 use native.Mathlib.Omega.{arith}
 use mathlib.Core.Path.{_≡_, refl, sym, _∙_, ap}
-use mathlib.Core.Logic.{_⊎_, inl, inr}
 use mathlib.Core.Bool.{Bool, true, false, not, _&&_, false≢true}
 use mathlib.Core.List.{List, [], _∷_, _++_, append-assoc, append-nil, List·Memᴰ·head, List·Memᴰ·tail, List·Memᴰ·cases-cons, List·Memᴰ·append-cases, List·Memᴰ·not-nil, Memᴰ·append-left, Memᴰ·append-right}
 use lib.ListN.{length, length-append}
 use lib.Dec.{eqb, ltb, leb}
-use borrow.Author.Tests.{eqb-false, eq-eqb, ltb-true, leb-true, le-leb}
+use borrow.Author.Tests.{eq-eqb, ltb-true, leb-true, le-leb}
 use Rattle.lists.specs.Lists.{any, none, filter, differ}
 use Rattle.lists.specs.Members.{_∈_, Each, Some, Apart, nothing, more}
-use Rattle.lists.proofs.Tests.{by-test, by-either, no-clash, true-and, not-true, false-not, each-nothing, each-more, each-head, each-rest, of-filter, none-each, some-any, length-filter, differ-apart}
-use Rattle.rules.specs.Identifiers.{Id, isZero, sameBytes}
+use Rattle.lists.proofs.Tests.{by-test, by-either, no-clash, true-and, not-true, each-nothing, each-more, each-head, each-rest, of-filter, none-each, some-any, length-filter, differ-apart}
+use Rattle.rules.specs.Identifiers.{Id, isZero}
 use Rattle.rules.specs.Sizes.{identifierSize, heldMost, transactionPlaces, enlistmentPlaces}
 use Rattle.rules.specs.Log.{Entry, Record}
 use Rattle.rules.specs.Restart.{Open, isOpenAs, afterRecord, openAfter, entriesOpen, ascendFrom, sameEntryManager, isFitting, allFitting}
-use Rattle.rules.proofs.Identifiers.{same-refl, same-equal, equal-same}
-use Rattle.rules.proofs.Records.{ValidEntry, Valid, valid-commit, valid-forget}
+use Rattle.rules.proofs.Identifiers.{equal-same}
+use Rattle.rules.proofs.Records.{ValidEntry, Valid, valid-commit}
 use Rattle.safety.proofs.Given.{apart-head, apart-rest}
 
 -- ── lists in which no two are alike ─────────────────────────────────────────────────────────────────────────────
@@ -120,7 +119,8 @@ module _ (f : Open → Bool) where
     entries = λ o m. k .entries o (of-filter f os m .0);
     numbers-apart = apart-entries os (k .numbers-apart);
     few = omega (arith, k .few, length-filter f os);
-    few-entries = omega (arith, k .few-entries, fewer-entries os) }
+    few-entries = omega (arith, k .few-entries, fewer-entries os);
+  }
 
 -- ── each record keeps it ────────────────────────────────────────────────────────────────────────────────────────
 
@@ -165,9 +165,15 @@ commit-fits os t es q = go (eight (not (isZero t)) (none (λ e. isZero (e .rm)) 
   where
     go : (not (isZero t) ≡ true) × (none (λ e. isZero (e .rm)) es ≡ true) × (none (isOpenAs t) os ≡ true) × (ascendFrom 0 es ≡ true) × (none (λ e. any (λ d. eqb (d .number) (e .number)) (entriesOpen os)) es ≡ true) × (differ sameEntryManager es ≡ true) × (leb (length os + 1) transactionPlaces ≡ true) × (leb (length (entriesOpen os) + length es) enlistmentPlaces ≡ true) → FitCommit os t es
     go (a, b, c, d, e, f, g, h) = record {
-      nonzero = not-true (isZero t) a; managers = not-true (any (λ e. isZero (e .rm)) es) b; not-open = not-true (any (isOpenAs t) os) c; ascending = d;
-      numbers-new = not-true (any (λ e. any (λ d. eqb (d .number) (e .number)) (entriesOpen os)) es) e; managers-differ = f;
-      few = leb-true (length os + 1) transactionPlaces g; few-entries = leb-true (length (entriesOpen os) + length es) enlistmentPlaces h }
+      nonzero = not-true (isZero t) a;
+      managers = not-true (any (λ e. isZero (e .rm)) es) b;
+      not-open = not-true (any (isOpenAs t) os) c;
+      ascending = d;
+      numbers-new = not-true (any (λ e. any (λ d. eqb (d .number) (e .number)) (entriesOpen os)) es) e;
+      managers-differ = f;
+      few = leb-true (length os + 1) transactionPlaces g;
+      few-entries = leb-true (length (entriesOpen os) + length es) enlistmentPlaces h;
+    }
 
 fits-commit : (os : List Open) (t : Id) (es : List Entry) → FitCommit os t es → isFitting os (Record.commit t es) ≡ true
 unfolding isFitting
@@ -186,21 +192,30 @@ fit-commit os t es k (valid-commit a b c d) f = record {
   ids = each-both os (o ∷ []) (k .ids) (each-one (λ o. isZero (o .id) ≡ false) o (f .nonzero));
   ids-apart = apart-both os (o ∷ []) (k .ids-apart) (more (each-nothing _) nothing) (λ x y m n r. other x y m (only y n) r);
   entries = each-both os (o ∷ []) (k .entries) (each-one (λ o. FitEntries (o .entries)) o (record {
-    some-entry = b; few = c; valid = d; managers = none-each (λ e. isZero (e .rm)) es (f .managers);
+    some-entry = b;
+    few = c;
+    valid = d;
+    managers = none-each (λ e. isZero (e .rm)) es (f .managers);
     numbers = λ e m z. omega (arith, z, ascend-numbers 0 es (f .ascending) e m);
-    managers-apart = differ-apart sameEntryManager (λ x y r. equal-same (y .rm) (x .rm) (sym r)) es (f .managers-differ) }));
+    managers-apart = differ-apart sameEntryManager (λ x y r. equal-same (y .rm) (x .rm) (sym r)) es (f .managers-differ);
+  }));
   numbers-apart = rw (all-entries) (apart-both (entriesOpen os) es (k .numbers-apart) (ascend-apart 0 es (f .ascending)) new);
   few = rw (length-append os (o ∷ [])) (f .few);
-  few-entries = rw (all-entries, length-append (entriesOpen os) es) (f .few-entries) }
+  few-entries = rw (all-entries, length-append (entriesOpen os) es) (f .few-entries);
+}
   where
     o : Open
     o = record { id = t; entries = es }
+
     all-entries : entriesOpen (os ++ (o ∷ [])) ≡ entriesOpen os ++ es
     all-entries = entries-both os (o ∷ []) ∙ ap (λ l. entriesOpen os ++ l) (append-nil es)
+
     only : (y : Open) → y ∈ o ∷ [] → y ≡ o
     only y n = by-either (λ e. e) (λ i. absurd (List·Memᴰ·not-nil i)) (List·Memᴰ·cases-cons n)
+
     other : (x y : Open) → x ∈ os → y ≡ o → x .id ≡ y .id → ⊥
     other x y m e r = absurd (no-clash (isOpenAs t x) (equal-same (x .id) t (r ∙ ap (λ (q : Open). q .id) e)) (none-each (isOpenAs t) os (f .not-open) x m))
+
     new : (d e : Entry) → d ∈ entriesOpen os → e ∈ es → d .number ≡ e .number → ⊥
     new d e m n r = no-clash (any (λ d. eqb (d .number) (e .number)) (entriesOpen os)) (some-any (λ d. eqb (d .number) (e .number)) (entriesOpen os) (record { it = d; there = m; holds = eq-eqb (d .number) (e .number) r })) (none-each (λ e. any (λ d. eqb (d .number) (e .number)) (entriesOpen os)) es (f .numbers-new) e n)
 
