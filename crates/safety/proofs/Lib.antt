@@ -19,3 +19,4 @@ pub mod Pinned
 pub mod Memory
 pub mod Open
 pub mod Reopened
+pub mod Fitting

@@ -26,7 +26,7 @@ use Rattle.safety.specs.Beyond.{Remembers, Remembered, AnsweredCommitted
 use Rattle.safety.proofs.Alone.{Story, View, out, early, voting, single, committing, aborting, Waits, Shape}
 use Rattle.safety.proofs.Top.{Inv, inv}
 use Rattle.safety.proofs.Story.{storyOf}
-use Rattle.safety.proofs.View.{viewOf, look}
+use Rattle.safety.proofs.View.{viewOf, looks-committing}
 use Rattle.safety.proofs.Steps.{step-needs-sound, zero-unsound}
 use Rattle.safety.proofs.Safety.{refines}
 
@@ -45,17 +45,6 @@ module _ (t r : Id) (l : Story) (h : List Note) (waiting sent : List Issued) (is
   must-be-told (single es) s = absurd (s .undecided .no-committed (inr c))
   must-be-told (committing es) s = record { es = es; is = refl; waits = s .wait r m }
   must-be-told aborting s = absurd (s .no-committed (inr c))
-
--- only Committing looks so
-looks-committing : (k : ℕ) (hs es : List Enlistment) → look k hs ≡ committing es → (k ≡ transaction.committing) × (hs ≡ es)
-looks-committing zero hs es q = let z : _≡_ {A = ℕ} 0 1 = cc in absurd (omega arith)
-looks-committing (suc zero) hs es q = let z : _≡_ {A = ℕ} 0 1 = cc in absurd (omega arith)
-looks-committing (suc (suc zero)) hs es q = let z : _≡_ {A = ℕ} 0 1 = cc in absurd (omega arith)
-looks-committing (suc (suc (suc zero))) hs es q = let z : _≡_ {A = ℕ} 0 1 = cc in absurd (omega arith)
-looks-committing (suc (suc (suc (suc zero)))) hs es q = let z : _≡_ {A = ℕ} 0 1 = cc in absurd (omega arith)
-looks-committing (suc (suc (suc (suc (suc zero))))) hs es q = (refl, cc)
-looks-committing (suc (suc (suc (suc (suc (suc zero)))))) hs es q = let z : _≡_ {A = ℕ} 0 1 = cc in absurd (omega arith)
-looks-committing (suc (suc (suc (suc (suc (suc (suc k))))))) hs es q = let z : _≡_ {A = ℕ} 0 1 = cc in absurd (omega arith)
 
 remembers : (t r : Id) (tb : Table) → Told r (viewOf t tb) → Remembers t r tb
 unfolding viewOf

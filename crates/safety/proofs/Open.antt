@@ -3,13 +3,13 @@ use Prim.Native.Nat.{ℕ, _+_, _≤_, _<_}
 use native.Mathlib.Omega.{arith}
 use mathlib.Core.Path.{_≡_, refl, sym, _∙_, ap}
 use mathlib.Core.Bool.{Bool, true, false, not, _&&_, false≢true}
-use mathlib.Core.List.{List, [], _∷_, _++_, append-assoc, append-nil, List·Memᴰ·head, List·Memᴰ·tail, List·Memᴰ·cases-cons, List·Memᴰ·append-cases, List·Memᴰ·not-nil, Memᴰ·append-left, Memᴰ·append-right}
+use mathlib.Core.List.{List, [], _∷_, _++_, map, append-assoc, append-nil, List·Memᴰ·head, List·Memᴰ·tail, List·Memᴰ·cases-cons, List·Memᴰ·append-cases, List·Memᴰ·not-nil, Memᴰ·append-left, Memᴰ·append-right}
 use lib.ListN.{length, length-append}
 use lib.Dec.{eqb, ltb, leb}
 use borrow.Author.Tests.{eq-eqb, ltb-true, leb-true, le-leb}
 use Rattle.lists.specs.Lists.{any, none, filter, differ}
 use Rattle.lists.specs.Members.{_∈_, Each, Some, Apart, nothing, more}
-use Rattle.lists.proofs.Tests.{by-test, by-either, no-clash, true-and, not-true, each-nothing, each-more, each-head, each-rest, of-filter, none-each, some-any, length-filter, differ-apart}
+use Rattle.lists.proofs.Tests.{by-test, by-either, no-clash, true-and, not-true, each-nothing, each-more, each-head, each-rest, of-filter, of-map, none-each, some-any, length-filter, differ-apart}
 use Rattle.rules.specs.Identifiers.{Id, isZero}
 use Rattle.rules.specs.Sizes.{identifierSize, heldMost, transactionPlaces, enlistmentPlaces}
 use Rattle.rules.specs.Log.{Entry, Record}
@@ -51,6 +51,13 @@ module _ {A : Type 0} {R : A → A → Type 0} where
 pub apart-as : {A : Type 0} {R S : A → A → Type 0} → ((x y : A) → S x y → R x y) → (xs : List A) → Apart R xs → Apart S xs
 apart-as f [] a = nothing
 apart-as f (x ∷ xs) a = more (λ y m r. apart-head a y m (f x y r)) (apart-as f xs (apart-rest a))
+
+pub apart-map : {A B : Type 0} {R : B → B → Type 0} (g : A → B) (xs : List A) → Apart (λ x y. R (g x) (g y)) xs → Apart R (map g xs)
+apart-map g [] a = nothing
+apart-map {A} {B} {R} g (x ∷ xs) a = more (λ y m r. go y (of-map g xs m) r) (apart-map g xs (apart-rest a))
+  where
+    go : (y : B) → Some (λ w. g w ≡ y) xs → R (g x) y → ⊥
+    go y s r = apart-head a (s .it) (s .there) (rw (s .holds) r)
 
 -- ── what is known of the open ones ──────────────────────────────────────────────────────────────────────────────
 

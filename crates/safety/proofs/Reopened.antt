@@ -25,20 +25,13 @@ use Rattle.rules.specs.Restart.{Open, entriesOpen, reopened, reenlistment, reen
 use Rattle.rules.proofs.Identifiers.{equal-zero}
 use Rattle.rules.proofs.Frames.{of-held, in-held}
 use Rattle.safety.proofs.Given.{apart-head, apart-rest}
-use Rattle.safety.proofs.Open.{FitEntries, Fit, apart-both, apart-first, apart-second, apart-cross, apart-filter, in-entries}
+use Rattle.safety.proofs.Open.{FitEntries, Fit, apart-both, apart-first, apart-second, apart-cross, apart-filter, apart-map, in-entries}
 
 -- ── places that are left over ───────────────────────────────────────────────────────────────────────────────────
 
 of-replicate : {A : Type 0} (n : ℕ) (a : A) {x : A} → x ∈ replicate n a → x ≡ a
 of-replicate zero a m = absurd (List·Memᴰ·not-nil m)
 of-replicate (suc n) a m = by-either (λ e. e) (λ i. of-replicate n a i) (List·Memᴰ·cases-cons m)
-
-apart-map : {A B : Type 0} {R : B → B → Type 0} (g : A → B) (xs : List A) → Apart (λ x y. R (g x) (g y)) xs → Apart R (map g xs)
-apart-map g [] a = nothing
-apart-map {A} {B} {R} g (x ∷ xs) a = more (λ y m r. go y (of-map g xs m) r) (apart-map g xs (apart-rest a))
-  where
-    go : (y : B) → Some (λ w. g w ≡ y) xs → R (g x) y → ⊥
-    go y s r = apart-head a (s .it) (s .there) (rw (s .holds) r)
 
 -- ── where what is reopened stands ───────────────────────────────────────────────────────────────────────────────
 

@@ -30,7 +30,7 @@ use Rattle.safety.proofs.Cut.{Restored, keep-store, keep-leave, shape-l
 
 -- what a move may take for granted of the story
 abbrev pub Agrees : View → Story → Type 0
-Agrees out l = Unit {0}
+Agrees out l = (rs : List Entry) → l ≡ open-with rs → ⊥
 Agrees (early es) l = l ≡ none
 Agrees (voting es) l = l ≡ none
 Agrees (single es) l = l ≡ none
@@ -118,7 +118,7 @@ module _ (R : Refines) where
   silent-quiet t = record { no-committed = λ m. List·Memᴰ·not-nil (m .there); no-aborted = λ m. List·Memᴰ·not-nil (m .there) }
 
   agrees : (t : Id) (v : View) (l : Story) (h : List Note) (waiting sent : List Issued) (issued : List Message) → Shape t v l h waiting sent issued → Agrees v l
-  agrees t out l h waiting sent issued s = tt
+  agrees t out l h waiting sent issued s = s .not-open
   agrees t (early es) l h waiting sent issued s = s .undecided .log-none
   agrees t (voting es) l h waiting sent issued s = s .undecided .log-none
   agrees t (single es) l h waiting sent issued s = s .undecided .log-none
