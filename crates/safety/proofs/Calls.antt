@@ -47,6 +47,7 @@ use Rattle.safety.proofs.Top.{Agrees}
 use Rattle.safety.proofs.Story.{story}
 use Rattle.safety.proofs.View.{viewOf, look, view-stands, view-absent, view-same, view-goes, goes-other, view-changes, view-held-other, state-none}
 use Rattle.safety.proofs.Given.{stands-sound, owner-held}
+use Rattle.safety.proofs.Fitting.{judged-nothing}
 use Rattle.safety.proofs.Messages.{notCommitted, notAborted, Only, only-nothing, only-one, only-each, Addressed, Owned, addressed-nothing, addressed-one, addressed-neutral, none-committed, none-aborted, quiet}
 use Rattle.safety.proofs.Own.{by-cases, Own, unlogged, used-goes, own-abort, own-start}
 use Rattle.safety.proofs.Reactions.{nothing-calm, untouched}
@@ -130,6 +131,7 @@ module _ (tb : Table) (log : List ℕ) (s : Sound tb) (x : TxId) (y : RmId) wher
       bytes = rw used-begun nothing-written;
       other-story = λ u d k. refl;
       other-view = begun-other;
+      judged = judged-nothing tb log (begun .used) used-begun;
       addressed = addressed-nothing tb (event act.Begin);
       move = λ h made l a. rw (view-absent t tb absent, begun-view) (begin refl made refl (quiet t tb (event act.Begin) [] (only-nothing notCommitted) (only-nothing notAborted)));
     }
@@ -248,6 +250,7 @@ module _ (tb : Table) (log : List ℕ) (s : Sound tb) (x : TxId) (y : RmId) wher
         bytes = rw used-enlisted nothing-written;
         other-story = λ u d q. refl;
         other-view = enlisted-other;
+        judged = judged-nothing tb log (enlisted .used) used-enlisted;
         addressed = addressed-neutral tb ev ss (only-zero notCommitted refl) (only-zero notAborted refl);
         move = λ h made l a. rw (is-early st, enlisted-view) (gather refl not-prepared (quiet t tb ev ss (only-zero notCommitted refl) (only-zero notAborted refl)) (λ j w. enlisted-keeps (Unasked j) w) is-new);
       }
@@ -264,7 +267,7 @@ module _ (tb : Table) (log : List ℕ) (s : Sound tb) (x : TxId) (y : RmId) wher
       → ((h : List Note) → MayAsk t r h → (l : Story) → Agrees (viewOf t tb) l → Move t h Note.nothing (map (messageOf tb ask) ss) l l (viewOf t tb) (viewOf t tb))
       → Own tb ask log t (saying ss (quietly tb log))
   unfolding story told
-  only-answered ss ad mv = record { records = []; valid = each-nothing Valid; bytes = nothing-written; other-story = λ u d q. refl; other-view = λ u d. refl; addressed = ad; move = mv }
+  only-answered ss ad mv = record { records = []; valid = each-nothing Valid; bytes = nothing-written; other-story = λ u d q. refl; other-view = λ u d. refl; judged = judged-nothing tb log (tb .used) refl; addressed = ad; move = mv }
 
   again-kept : (e : Enlistment) → (toldAgain r e .holder ≡ e .holder) × (toldAgain r e .kind ≡ e .kind)
   again-kept e = by-cases (λ (w : Enlistment). (w .holder ≡ e .holder) × (w .kind ≡ e .kind)) (isUndone r e && isIn enlistment.failedToNotify e) (inState enlistment.toldCommit e) e (λ _. (refl, refl)) (λ _. (refl, refl))

@@ -4,7 +4,7 @@ use Prim.Native.Nat.{ℕ, suc, _+_, _*_, _≤_, _<_}
 use native.Mathlib.Omega.{arith}
 use mathlib.Core.Path.{_≡_, refl, sym, _∙_, ap}
 use mathlib.Core.Logic.{_⊎_, inl, inr}
-use mathlib.Core.Bool.{Bool, true, false, not, _&&_}
+use mathlib.Core.Bool.{Bool, true, false, not, _&&_, false≢true}
 use mathlib.Core.List.{List, [], _∷_, _++_, map, List·Memᴰ·head, List·Memᴰ·tail, List·Memᴰ·cases-cons, List·Memᴰ·append-cases, List·Memᴰ·not-nil, Memᴰ·cast}
 use lib.ListN.{length, length-map, length-append}
 use lib.Dec.{eqb, ltb}
@@ -26,7 +26,7 @@ use Rattle.rules.specs.Table.{noTransaction, isLive, isNamed, placeNamed, trans
 use Rattle.rules.specs.Kinds as kind
 use Rattle.rules.specs.Sound.{Sound, Durable, Held, Identifier, isOpen, openPlaces, openCount}
 use Rattle.rules.specs.Log.{Entry, Record}
-use Rattle.rules.specs.Restart.{Open, isOpenAs, openAfter, allFitting, entriesOpen, ascendFrom, sameEntryManager}
+use Rattle.rules.specs.Restart.{Open, isOpenAs, openAfter, isFitting, allFitting, entriesOpen, ascendFrom, sameEntryManager}
 use Rattle.rules.specs.Signals.{byNumber}
 use Rattle.rules.specs.Events.{entryOf}
 use Rattle.rules.proofs.Identifiers.{same-refl, same-equal, equal-same, zero-equal}
@@ -92,11 +92,11 @@ pub record OpenAt (o : Open) (tb : Table) : Type 0 where
 in-one : {A : Type 0} {x y : A} → x ∈ y ∷ [] → x ≡ y
 in-one m = by-either (λ e. e) (λ i. absurd (List·Memᴰ·not-nil i)) (List·Memᴰ·cases-cons m)
 
-mine-none : (u : Id) (os : List Open) → mine u os ≡ [] → any (isOpenAs u) os ≡ false
+pub mine-none : (u : Id) (os : List Open) → mine u os ≡ [] → any (isOpenAs u) os ≡ false
 unfolding mine
 mine-none u os e = is-false (any (isOpenAs u) os) (λ q. let s : Some (λ o. isOpenAs u o ≡ true) os = any-some (isOpenAs u) os q in List·Memᴰ·not-nil (rw e at (in-filter (isOpenAs u) os (s .there) (s .holds))))
 
-mine-some : (u : Id) (os : List Open) (o : Open) → mine u os ≡ o ∷ [] → any (isOpenAs u) os ≡ true
+pub mine-some : (u : Id) (os : List Open) (o : Open) → mine u os ≡ o ∷ [] → any (isOpenAs u) os ≡ true
 unfolding mine
 mine-some u os o e = let w : (o ∈ os) × (isOpenAs u o ≡ true) = of-filter (isOpenAs u) os (rw e (List·Memᴰ·head refl)) in some-any (isOpenAs u) os (record { it = o; there = w .0; holds = w .1 })
 
@@ -119,6 +119,12 @@ shown rs (committing es) s e (inl (qs, q, d, n)) = record { es = es; is = refl; 
 shown rs (committing es) s e (inr (q, n)) = let z : _≡_ {A = ℕ} 0 1 = cc in absurd (omega arith)
 shown rs aborting s e a = let z : _≡_ {A = ℕ} 0 1 = cc in absurd (omega arith)
 
+pub open-shown : (o : Open) (T : Table) → Shown (o .entries) (viewOf (o .id) T) → OpenAt o T
+unfolding viewOf
+open-shown o T w =
+    let q : (stateAt (placeNamed (o .id) T) T ≡ transaction.committing) × (held (placeNamed (o .id) T) T ≡ w .es) = looks-committing (stateAt (placeNamed (o .id) T) T) (held (placeNamed (o .id) T) T) (w .es) (w .is) in
+    record { state = q .0; durable = rw (q .1) (w .durable); entered = rw (q .1) (w .entered) }
+
 module _ (tb : Table) (log : List ℕ) (os : List Open) (r : Ready tb log os) where
   -- of an open transaction the log tells its record
   story-open : (o : Open) → o ∈ os → r .storied (o .id) ≡ open-with (o .entries)
@@ -138,10 +144,7 @@ module _ (tb : Table) (log : List ℕ) (os : List Open) (r : Ready tb log os) wh
   shown-open o m = shown (o .entries) (viewOf (o .id) tb) (r .storied (o .id)) (story-open o m) (r .agrees (o .id))
 
   pub open-at : (o : Open) → o ∈ os → OpenAt o tb
-  unfolding viewOf
-  open-at o m = let w : Shown (o .entries) (viewOf (o .id) tb) = shown-open o m in
-      let q : (stateAt (placeNamed (o .id) tb) tb ≡ transaction.committing) × (held (placeNamed (o .id) tb) tb ≡ w .es) = looks-committing (stateAt (placeNamed (o .id) tb) tb) (held (placeNamed (o .id) tb) tb) (w .es) (w .is) in
-      record { state = q .0; durable = rw (q .1) (w .durable); entered = rw (q .1) (w .entered) }
+  open-at o m = open-shown o tb (shown-open o m)
 
 -- ── each open one at a place of its own ─────────────────────────────────────────────────────────────────────────
 
@@ -190,6 +193,12 @@ module _ (T : Table) where
           go : Some (λ o. placeNamed (o .id) T ≡ q) os → q ∈ live
           go s = rw (← s .holds) (live-place (s .it .id) (placeNamed (s .it .id) T) (placed (s .it) (h (s .it) (s .there))))
 
+nonzero : (u : Id) → Identifier u → isZero u ≡ false
+nonzero u i = is-false (isZero u) (λ z. i .1 (zero-equal u (i .0) z))
+
+pub live-nonzero : (tb : Table) → Sound tb → (t : Id) (p : ℕ) → Stands t p tb → isZero t ≡ false
+live-nonzero tb s t p at = nonzero t (rw (named-is t (transactionAt p tb) (at .here) .1) at (s .transaction-identifiers (transactionAt p tb) (at-member noTransaction (tb .transactions) (named-place t p tb (at .here))) (eqb-false (stateAt p tb) 0 (not-true (eqb (stateAt p tb) 0) (named-is t (transactionAt p tb) (at .here) .0)))))
+
 -- ── a commit record fits ────────────────────────────────────────────────────────────────────────────────────────
 
 sorted-rest : {x : Enlistment} {ds : List Enlistment} → Sorted byNumber (x ∷ ds) → Sorted byNumber ds
@@ -223,12 +232,6 @@ module _ (tb : Table) (log : List ℕ) (os : List Open) (r : Ready tb log os) (t
     (sorted : Sorted byNumber ds) (numbers : Apart (λ x y. x .number ≡ y .number) ds) (managers : Apart (λ x y. x .rm .0 ≡ y .rm .0) ds) where
   here-held : {y : Enlistment} → y ∈ held p tb → Held y
   here-held m z = not-zero (named-place t p tb (at .here)) (sym (of-held p tb m .1) ∙ z)
-
-  nonzero : (u : Id) → Identifier u → isZero u ≡ false
-  nonzero u i = is-false (isZero u) (λ z. i .1 (zero-equal u (i .0) z))
-
-  own-identifier : Identifier t
-  own-identifier = rw (named-is t (transactionAt p tb) (at .here) .1) at (r .sound .transaction-identifiers (transactionAt p tb) (at-member noTransaction (tb .transactions) (named-place t p tb (at .here))) (eqb-false (stateAt p tb) 0 (not-true (eqb (stateAt p tb) 0) (named-is t (transactionAt p tb) (at .here) .0))))
 
   -- its numbers are its own
   own-number : {x : Enlistment} → x ∈ ds → (x .number ≡ 0 → ⊥) × (ownerOf (x .number) tb ≡ t)
@@ -271,7 +274,7 @@ module _ (tb : Table) (log : List ℕ) (os : List Open) (r : Ready tb log os) (t
 
   pub commit-fit : FitCommit os t (map entryOf ds)
   commit-fit = record {
-    nonzero = nonzero t own-identifier;
+    nonzero = live-nonzero tb (r .sound) t p at;
     managers = each-none (λ e. isZero (e .rm)) (map entryOf ds) (λ e m. manager e (of-map entryOf ds m));
     not-open = closed-to;
     ascending = ascends 0 ds sorted numbers (λ x m. let z : x .number ≡ 0 → ⊥ = own-number m .0 in omega (arith, z));
@@ -285,3 +288,16 @@ module _ (tb : Table) (log : List ℕ) (os : List Open) (r : Ready tb log os) (t
         ap isZero (sym (ap (λ (e : Entry). e .rm) (s .holds)) ∙ y .holds .0) ∙ nonzero (y .it .rm .0) (r .sound .manager-identifiers (y .it) (of-held p tb (y .there) .0) (here-held (y .there)))
       fresh : (e d : Entry) → Some (λ x. entryOf x ≡ e) ds → d ∈ entriesOpen os → eqb (d .number) (e .number) ≡ false
       fresh e d s i = ne-eqb (d .number) (e .number) (λ c. new-numbers d (s .it) i (s .there) (c ∙ sym (ap (λ (e : Entry). e .number) (s .holds))))
+
+-- ── a forget record fits ────────────────────────────────────────────────────────────────────────────────────────
+
+pub one-forgotten : (t : Id) (os : List Open) → any (isOpenAs t) os ≡ true → length (filter (λ o. not (isOpenAs t o)) os) < length os
+unfolding any filter
+one-forgotten t [] e = absurd (false≢true e)
+one-forgotten t (o ∷ os) e = by-test (isOpenAs t o)
+    (λ b. rw b (omega (arith, length-filter (λ o. not (isOpenAs t o)) os)))
+    (λ b. let ih : length (filter (λ o. not (isOpenAs t o)) os) < length os = one-forgotten t os (rw b at e) in rw b (omega (arith, ih)))
+
+pub forget-fit : (t : Id) (os : List Open) → isZero t ≡ false → any (isOpenAs t) os ≡ true → isFitting os (Record.forget t) ≡ true
+unfolding isFitting
+forget-fit t os z o = rw (z, o) refl

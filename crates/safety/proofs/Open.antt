@@ -9,7 +9,7 @@ use lib.Dec.{eqb, ltb, leb}
 use borrow.Author.Tests.{eq-eqb, ltb-true, leb-true, le-leb}
 use Rattle.lists.specs.Lists.{any, none, filter, differ}
 use Rattle.lists.specs.Members.{_∈_, Each, Some, Apart, nothing, more}
-use Rattle.lists.proofs.Tests.{by-test, by-either, no-clash, true-and, not-true, each-nothing, each-more, each-head, each-rest, of-filter, of-map, none-each, some-any, length-filter, differ-apart}
+use Rattle.lists.proofs.Tests.{by-test, by-either, no-clash, true-and, not-true, each-nothing, each-more, each-head, each-rest, in-filter, of-filter, of-map, none-each, some-any, length-filter, differ-apart}
 use Rattle.rules.specs.Identifiers.{Id, isZero}
 use Rattle.rules.specs.Sizes.{identifierSize, heldMost, transactionPlaces, enlistmentPlaces}
 use Rattle.rules.specs.Log.{Entry, Record}
@@ -58,6 +58,25 @@ apart-map {A} {B} {R} g (x ∷ xs) a = more (λ y m r. go y (of-map g xs m) r) (
   where
     go : (y : B) → Some (λ w. g w ≡ y) xs → R (g x) y → ⊥
     go y s r = apart-head a (s .it) (s .there) (rw (s .holds) r)
+
+-- what passes a narrower test is no more alike
+pub apart-narrower : {A : Type 0} {R S : A → A → Type 0} (f h : A → Bool) → ((x : A) → h x ≡ true → f x ≡ true) → ((x y : A) → h x ≡ true → h y ≡ true → S x y → R x y)
+    → (xs : List A) → Apart R (filter f xs) → Apart S (filter h xs)
+unfolding filter
+apart-narrower f h i c [] a = nothing
+apart-narrower {R = R} f h i c (x ∷ xs) a = by-test (h x)
+    (λ t. let b : Apart R (x ∷ filter f xs) = rw (i x t) at a in
+    rw t (more (λ y m r. apart-head b y (in-filter f xs (of-filter h xs m .0) (i y (of-filter h xs m .1))) (c x y t (of-filter h xs m .1) r)) (apart-narrower f h i c xs (apart-rest b))))
+    (λ t. rw t (apart-narrower f h i c xs (by-test (f x) (λ u. apart-rest {x = x} (rw u at a)) (λ u. rw u at a))))
+
+filter-map : {A B : Type 0} (h : B → Bool) (g : A → B) (xs : List A) → filter h (map g xs) ≡ map g (filter (λ x. h (g x)) xs)
+unfolding filter
+filter-map h g [] = refl
+filter-map h g (x ∷ xs) = by-test (h (g x)) (λ t. rw t (ap (λ l. g x ∷ l) (filter-map h g xs))) (λ t. rw t (filter-map h g xs))
+
+pub apart-changed : {A : Type 0} {R S : A → A → Type 0} (f h : A → Bool) (g : A → A) → ((x : A) → h (g x) ≡ true → f x ≡ true) → ((x y : A) → h (g x) ≡ true → h (g y) ≡ true → S (g x) (g y) → R x y)
+    → (xs : List A) → Apart R (filter f xs) → Apart S (filter h (map g xs))
+apart-changed {S = S} f h g i c xs a = rw (filter-map h g xs) (apart-map g (filter (λ x. h (g x)) xs) (apart-narrower f (λ x. h (g x)) i c xs a))
 
 -- ── what is known of the open ones ──────────────────────────────────────────────────────────────────────────────
 
@@ -182,7 +201,7 @@ commit-fits os t es q = go (eight (not (isZero t)) (none (λ e. isZero (e .rm)) 
       few-entries = leb-true (length (entriesOpen os) + length es) enlistmentPlaces h;
     }
 
-fits-commit : (os : List Open) (t : Id) (es : List Entry) → FitCommit os t es → isFitting os (Record.commit t es) ≡ true
+pub fits-commit : (os : List Open) (t : Id) (es : List Entry) → FitCommit os t es → isFitting os (Record.commit t es) ≡ true
 unfolding isFitting
 fits-commit os t es k = rw (k .nonzero, k .managers, k .not-open, k .ascending, k .numbers-new, k .managers-differ, le-leb (length os + 1) transactionPlaces (k .few), le-leb (length (entriesOpen os) + length es) enlistmentPlaces (k .few-entries)) refl
 
