@@ -94,10 +94,10 @@ forget-size : (t : Id) → length t ≡ identifierSize → length (recordBytes (
 unfolding recordBytes
 forget-size t e = rw e refl
 
-live-open : (s : ℕ) (hs : List Enlistment) → isOpen s hs ≡ true → s ≡ transaction.committing
+pub live-open : (s : ℕ) (hs : List Enlistment) → isOpen s hs ≡ true → s ≡ transaction.committing
 live-open s hs o = eqb-true s transaction.committing (true-and (eqb s transaction.committing) (any isDurable hs) o .0)
 
-open-live : (p : ℕ) (tb : Table) → isOpen (stateAt p tb) (held p tb) ≡ true → isLive (transactionAt p tb) ≡ true
+pub open-live : (p : ℕ) (tb : Table) → isOpen (stateAt p tb) (held p tb) ≡ true → isLive (transactionAt p tb) ≡ true
 open-live p tb o = false-not (ne-eqb (stateAt p tb) 0 (λ z. omega (arith, z, live-open (stateAt p tb) (held p tb) o)))
 
 module _ (p : ℕ) (tb : Table) (log : List ℕ) where
