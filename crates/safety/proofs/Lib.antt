@@ -20,3 +20,4 @@ pub mod Memory
 pub mod Open
 pub mod Reopened
 pub mod Fitting
+pub mod Lengths
