@@ -21,3 +21,4 @@ pub mod Open
 pub mod Reopened
 pub mod Fitting
 pub mod Lengths
+pub mod Bricks

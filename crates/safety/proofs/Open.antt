@@ -245,7 +245,7 @@ fit-commit os t es k (valid-commit a b c d) f = record {
     new : (d e : Entry) → d ∈ entriesOpen os → e ∈ es → d .number ≡ e .number → ⊥
     new d e m n r = no-clash (any (λ d. eqb (d .number) (e .number)) (entriesOpen os)) (some-any (λ d. eqb (d .number) (e .number)) (entriesOpen os) (record { it = d; there = m; holds = eq-eqb (d .number) (e .number) r })) (none-each (λ e. any (λ d. eqb (d .number) (e .number)) (entriesOpen os)) es (f .numbers-new) e n)
 
-fit-record : (os : List Open) (r : Record) → Fit os → Valid r → isFitting os r ≡ true → Fit (afterRecord os r)
+pub fit-record : (os : List Open) (r : Record) → Fit os → Valid r → isFitting os r ≡ true → Fit (afterRecord os r)
 unfolding afterRecord
 fit-record os (Record.commit t es) k v f = fit-commit os t es k v (commit-fits os t es f)
 fit-record os (Record.forget t) k v f = fit-filter (λ o. not (isOpenAs t o)) os k

@@ -117,7 +117,7 @@ module _ (R : Refines) where
   silent-quiet : (t : Id) → Quiet t []
   silent-quiet t = record { no-committed = λ m. List·Memᴰ·not-nil (m .there); no-aborted = λ m. List·Memᴰ·not-nil (m .there) }
 
-  agrees : (t : Id) (v : View) (l : Story) (h : List Note) (waiting sent : List Issued) (issued : List Message) → Shape t v l h waiting sent issued → Agrees v l
+  pub agrees : (t : Id) (v : View) (l : Story) (h : List Note) (waiting sent : List Issued) (issued : List Message) → Shape t v l h waiting sent issued → Agrees v l
   agrees t out l h waiting sent issued s = s .not-open
   agrees t (early es) l h waiting sent issued s = s .undecided .log-none
   agrees t (voting es) l h waiting sent issued s = s .undecided .log-none

@@ -2,7 +2,9 @@
 use Prim.Native.Nat.{ℕ}
 use mathlib.Core.Path.{_≡_}
 use mathlib.Core.Logic.{_⊎_}
-use mathlib.Core.List.{List, [], _∷_}
+use mathlib.Core.Bool.{true}
+use mathlib.Core.List.{List, [], _∷_, _++_}
+use lib.ListN.{length}
 use Rattle.lists.specs.Members.{Some}
 use Rattle.rules.specs.declared.Table.{Table}
 use Rattle.rules.specs.declared.Event.{Event}
@@ -13,13 +15,25 @@ use Rattle.rules.specs.TransactionState as transaction
 use Rattle.rules.specs.EnlistmentState as enlistment
 use Rattle.rules.specs.Identifiers.{Id}
 use Rattle.rules.specs.Table.{placeNamed, stateAt, held}
-use Rattle.rules.specs.Sound.{In, Durable}
+use Rattle.rules.specs.Sound.{In, Durable, soundOf}
 use Rattle.rules.specs.Signals.{signal}
 use Rattle.rules.specs.Step.{stepOf}
-use Rattle.safety.specs.World.{World}
+use Rattle.rules.specs.Restart.{restartOf}
+use Rattle.safety.specs.World.{World, usedPart}
 use Rattle.safety.specs.Host.{MayAsk, careful}
 use Rattle.safety.specs.Run.{Run}
 use Rattle.safety.specs.Demand3.{Committed, About}
+
+-- ── no bricking ─────────────────────────────────────────────────────────────────────────────────────────────────
+
+-- the log as the last call left it is stored, whole or in part
+abbrev pub PartStored : World → Type 0
+PartStored w = (rest : List ℕ) × (w .disk ++ rest ≡ usedPart (w .table) (w .log))
+
+-- Wherever power fails, a restart with the same capacity is accepted, and its table is sound.
+unfoldable pub NeverBricked : Type 0
+NeverBricked = (w : World) → Run careful w → (w .table .used ≡ 0 → ⊥) → PartStored w → (spare : List ℕ) → length (w .disk ++ spare) ≡ w .table .capacity
+    → (restartOf (w .disk ++ spare) (length (w .disk)) .refusal ≡ refusal.accepted) × (soundOf (restartOf (w .disk ++ spare) (length (w .disk)) .table) ≡ true)
 
 -- ── a decision is remembered ────────────────────────────────────────────────────────────────────────────────────
 
