@@ -3,7 +3,7 @@
 use Prim.Native.Nat.{ℕ, suc, _+_, _*_, _≤_, _<_}
 use native.Mathlib.Omega.{arith}
 use mathlib.Core.Path.{_≡_, refl, sym, _∙_, ap, ap₂}
-use mathlib.Core.Bool.{Bool, _&&_, cond, false, not, true}
+use mathlib.Core.Bool.{Bool, cond, false, not, true}
 use mathlib.Core.List.{List, [], _∷_, _++_, append-assoc, append-nil, List·Memᴰ·head, List·Memᴰ·tail, List·Memᴰ·cases-cons, List·Memᴰ·not-nil}
 use lib.ListN.{length, take}
 use lib.Dec.{eqb}
@@ -334,6 +334,7 @@ module _ (p : ℕ) (tb : Table) (log : List ℕ) (n : ℕ) (os : List Open) (g :
     where
       other : q ≡ p → ⊥
       other e = omega (arith, live-open (stateAt q tb′) (held q tb′) b, ap (λ k. stateAt k tb′) e, ap (λ (x : Transaction). x .state) gone)
+
       somewhere : q ≡ 0 → ⊥
       somewhere e = omega (arith, live-open (stateAt q tb′) (held q tb′) b, ap (λ k. stateAt k tb′) e, state-none tb′)
 
@@ -345,19 +346,26 @@ module _ (p : ℕ) (tb : Table) (log : List ℕ) (n : ℕ) (os : List Open) (g :
       kept c = go (any-some (isOpenAs (idAt q tb)) os (g .opened q b .1))
         where
           go : Some (λ o. isOpenAs (idAt q tb) o ≡ true) os → any (isOpenAs (idAt q tb)) (filter (λ o. not (isOpenAs (idAt p tb) o)) os) ≡ true
-          go s = some-any (isOpenAs (idAt q tb)) (filter (λ o. not (isOpenAs (idAt p tb) o)) os) (record { it = s .it; holds = s .holds; there = in-filter (λ o. not (isOpenAs (idAt p tb) o)) os (s .there) (false-not (is-false (isOpenAs (idAt p tb) (s .it)) (λ e.
-            d (g .unlike q p (open-live q tb b) (open-live p tb c) (sym (same-equal (s .it .id) (idAt q tb) (s .holds)) ∙ same-equal (s .it .id) (idAt p tb) e))))) })
+          go s = some-any (isOpenAs (idAt q tb)) (filter (λ o. not (isOpenAs (idAt p tb) o)) os) (record {
+            it = s .it;
+            holds = s .holds;
+            there = in-filter (λ o. not (isOpenAs (idAt p tb) o)) os (s .there) (false-not (is-false (isOpenAs (idAt p tb) (s .it)) (λ e.
+                d (g .unlike q p (open-live q tb b) (open-live p tb c) (sym (same-equal (s .it .id) (idAt q tb) (s .holds)) ∙ same-equal (s .it .id) (idAt p tb) e)))));
+          })
 
   live-before : (q : ℕ) → isLive (transactionAt q tb′) ≡ true → (q ≡ p → ⊥)
   live-before q l e = absurd (no-clash (isLive (transactionAt q tb′)) l (ap (λ k. isLive (transactionAt k tb′)) e ∙ ap isLive gone))
 
   next-forgettable : Forgettable tb′ n os′
   next-forgettable = record {
-    opened = λ q b. (ap (λ (x : Transaction). isZero (x .id .0)) (ends-elsewhere p tb log q (still-open q b .0)) ∙ g .opened q (still-open q b .1) .0,
-      ap (λ (x : Transaction). any (isOpenAs (x .id .0)) os′) (ends-elsewhere p tb log q (still-open q b .0)) ∙ keeps-open q (still-open q b .0) (still-open q b .1));
+    opened = λ q b. (
+      ap (λ (x : Transaction). isZero (x .id .0)) (ends-elsewhere p tb log q (still-open q b .0)) ∙ g .opened q (still-open q b .1) .0,
+      ap (λ (x : Transaction). any (isOpenAs (x .id .0)) os′) (ends-elsewhere p tb log q (still-open q b .0)) ∙ keeps-open q (still-open q b .0) (still-open q b .1),
+    );
     unlike = λ q k a b e. g .unlike q k (ap isLive (sym (same q a)) ∙ a) (ap isLive (sym (same k b)) ∙ b) (ap (λ (x : Transaction). x .id .0) (sym (same q a)) ∙ e ∙ ap (λ (x : Transaction). x .id .0) (same k b));
     sizes = λ q a. ap (λ (x : Transaction). length (x .id .0)) (same q a) ∙ g .sizes q (ap isLive (sym (same q a)) ∙ a);
-    space = end-space }
+    space = end-space;
+  }
     where
       same : (q : ℕ) → isLive (transactionAt q tb′) ≡ true → transactionAt q tb′ ≡ transactionAt q tb
       same q l = ends-elsewhere p tb log q (live-before q l)
@@ -366,6 +374,7 @@ pub each-fits : (ps : List ℕ) (tb : Table) (log : List ℕ) (n : ℕ) (os : Li
     → (allFitting os (forgets ps tb log) ≡ true) × (endEach ps tb log .table .used + forgetSize * length (openAfter os (forgets ps tb log)) ≤ n)
 unfolding endEach forgets allFitting openAfter
 each-fits [] tb log n os g = (refl, g .space)
-each-fits (p ∷ ps) tb log n os g = let r = each-fits ps (endOf p tb log .table) (endOf p tb log .log) n (openAfter os (forgetOf p tb)) (next-forgettable p tb log n os g) in
-    (fitting-both os (forgetOf p tb) (forgets ps (endOf p tb log .table) (endOf p tb log .log)) ∙ and-true (end-fits p tb log n os g) (r .0),
-    rw (open-both os (forgetOf p tb) (forgets ps (endOf p tb log .table) (endOf p tb log .log))) (r .1))
+each-fits (p ∷ ps) tb log n os g = let r = each-fits ps (endOf p tb log .table) (endOf p tb log .log) n (openAfter os (forgetOf p tb)) (next-forgettable p tb log n os g) in (
+  fitting-both os (forgetOf p tb) (forgets ps (endOf p tb log .table) (endOf p tb log .log)) ∙ and-true (end-fits p tb log n os g) (r .0),
+  rw (open-both os (forgetOf p tb) (forgets ps (endOf p tb log .table) (endOf p tb log .log))) (r .1),
+)

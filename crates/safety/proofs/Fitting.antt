@@ -1,28 +1,27 @@
 -- What is written to the log of a sound table fits: it can be read back. The open transactions that the log tells are those that the
 -- table shows in Committing with a durable enlistment, each at a place of its own, so that they are no more than the places.
-use Prim.Native.Nat.{ℕ, suc, _+_, _*_, _≤_, _<_}
+use Prim.Native.Nat.{ℕ, _+_, _*_, _≤_, _<_}
 use native.Mathlib.Omega.{arith}
 use mathlib.Core.Path.{_≡_, refl, sym, _∙_, ap}
-use mathlib.Core.Logic.{_⊎_, inl, inr}
-use mathlib.Core.Bool.{Bool, true, false, not, _&&_, false≢true}
+use mathlib.Core.Logic.{inl, inr}
+use mathlib.Core.Bool.{Bool, true, false, not, false≢true}
 use mathlib.Core.List.{List, [], _∷_, _++_, map, List·Memᴰ·head, List·Memᴰ·tail, List·Memᴰ·cases-cons, List·Memᴰ·append-cases, List·Memᴰ·not-nil, Memᴰ·cast}
 use lib.ListN.{length, length-map, length-append}
 use lib.Dec.{eqb, ltb}
-use borrow.Author.Tests.{eqb-true, eqb-false, eq-eqb, ne-eqb, lt-ltb, ltb-true, ltb-false}
-use Rattle.lists.specs.Lists.{any, filter, count}
+use borrow.Author.Tests.{eqb-false, eq-eqb, ne-eqb, lt-ltb, ltb-true, ltb-false}
+use Rattle.lists.specs.Lists.{any, filter}
 use Rattle.lists.specs.Members.{_∈_, Each, Some, Apart, nothing, more}
 use Rattle.lists.specs.Places.{placesWhere}
 use Rattle.lists.specs.Sorting.{insertBy, sortBy}
-use Rattle.lists.proofs.Tests.{by-test, by-either, no-clash, is-false, and-true, not-true, false-not, true-not, each-rest, in-filter, of-filter, in-map, of-map, any-some, some-any, count-filter, length-filter, each-none, apart-differ}
+use Rattle.lists.proofs.Tests.{by-test, by-either, no-clash, is-false, not-true, false-not, each-rest, in-filter, of-filter, in-map, of-map, any-some, some-any, count-filter, length-filter, each-none, apart-differ}
 use Rattle.lists.proofs.Places.{at-member, in-places, length-places}
 use Rattle.lists.proofs.Sorting.{Sorted, sorted-more, of-insert, of-sort}
-use Rattle.rules.specs.declared.Transaction.{Transaction}
 use Rattle.rules.specs.declared.Enlistment.{Enlistment}
 use Rattle.rules.specs.declared.Table.{Table}
 use Rattle.rules.specs.TransactionState as transaction
 use Rattle.rules.specs.Sizes.{recordSize, transactionPlaces, enlistmentPlaces}
-use Rattle.rules.specs.Identifiers.{Id, isZero, sameBytes}
-use Rattle.rules.specs.Table.{noTransaction, isLive, isNamed, placeNamed, transactionAt, stateAt, idAt, held, isDurable}
+use Rattle.rules.specs.Identifiers.{Id, isZero}
+use Rattle.rules.specs.Table.{noTransaction, isLive, isNamed, placeNamed, transactionAt, stateAt, held, isDurable}
 use Rattle.rules.specs.Kinds as kind
 use Rattle.rules.specs.Sound.{Sound, Durable, Held, Identifier, isOpen, openPlaces, openCount}
 use Rattle.rules.specs.Log.{Entry, Record}
@@ -36,7 +35,7 @@ use Rattle.safety.proofs.Alone.{Story, none, open-with, closed, bad, Vi
 use Rattle.safety.proofs.Top.{Agrees}
 use Rattle.safety.proofs.Story.{mine, Tells}
 use Rattle.safety.proofs.View.{viewOf, looks-committing, state-none}
-use Rattle.safety.proofs.Given.{apart-head, apart-rest, stands-sound, id-size, owner-held}
+use Rattle.safety.proofs.Given.{apart-head, apart-rest, stands-sound, owner-held}
 use Rattle.safety.proofs.Open.{Fit, FitCommit, apart-both, apart-map, of-entries}
 
 -- ── no more than the places ─────────────────────────────────────────────────────────────────────────────────────
@@ -133,6 +132,7 @@ module _ (tb : Table) (log : List ℕ) (os : List Open) (r : Ready tb log os) wh
     where
       own : o ∈ filter (isOpenAs (o .id)) os
       own = in-filter (isOpenAs (o .id)) os m (same-refl (o .id))
+
       go : (s : Story) → r .storied (o .id) ≡ s → Tells (o .id) s os → r .storied (o .id) ≡ open-with (o .entries)
       go none e h = absurd (List·Memᴰ·not-nil (rw h at own))
       go (open-with rs) e (q, h, w, n) = e ∙ ap open-with (sym w ∙ ap (λ (x : Open). x .entries) (sym (in-one (rw h at own))))
@@ -181,12 +181,16 @@ module _ (T : Table) where
     where
       live : List ℕ
       live = placesWhere (λ q x. isLive x) (T .transactions)
+
       most : length live ≤ length (T .transactions)
       most = rw (length-places isLive 1 (T .transactions), count-filter isLive (T .transactions)) (length-filter isLive (T .transactions))
+
       other : (q : ℕ) → Some (λ o. placeNamed (o .id) T ≡ q) os → p ≡ q → ⊥
       other q s e = n (ap (λ k. stateAt k T) (e ∙ sym (s .holds)) ∙ h (s .it) (s .there) .state)
+
       live-place : (u : Id) (q : ℕ) → isNamed u (transactionAt q T) ≡ true → q ∈ live
       live-place u q m = in-places (λ q x. isLive x) noTransaction (T .transactions) (named-place u q T m) (named-is u (transactionAt q T) m .0)
+
       in-live : (q : ℕ) → q ∈ p ∷ placesOf os → q ∈ live
       in-live q m = by-either (λ e. rw e (live-place t p l)) (λ i. go (of-map (λ o. placeNamed (o .id) T) os i)) (List·Memᴰ·cases-cons m)
         where
@@ -239,9 +243,10 @@ module _ (tb : Table) (log : List ℕ) (os : List Open) (r : Ready tb log os) (t
 
   -- those of the open ones are theirs
   open-number : (o : Open) → o ∈ os → (d : Entry) → d ∈ o .entries → (ownerOf (d .number) tb ≡ o .id) × (Some (λ y. y .number ≡ d .number) (tb .enlistments))
-  open-number o m d i = let w : Some (λ y. y .number ≡ d .number) (held (placeNamed (o .id) tb) tb) = open-at tb log os r o m .entered d i in
-      (rw (w .holds) at (owner-held tb (r .sound) (o .id) (placeNamed (o .id) tb) (stands-sound tb (r .sound) (o .id) (placeNamed (o .id) tb) (placed tb o (open-at tb log os r o m))) (w .there) .1),
-      record { it = w .it; there = of-held (placeNamed (o .id) tb) tb (w .there) .0; holds = w .holds })
+  open-number o m d i = let w : Some (λ y. y .number ≡ d .number) (held (placeNamed (o .id) tb) tb) = open-at tb log os r o m .entered d i in (
+    rw (w .holds) at (owner-held tb (r .sound) (o .id) (placeNamed (o .id) tb) (stands-sound tb (r .sound) (o .id) (placeNamed (o .id) tb) (placed tb o (open-at tb log os r o m))) (w .there) .1),
+    record { it = w .it; there = of-held (placeNamed (o .id) tb) tb (w .there) .0; holds = w .holds },
+  )
 
   not-own : (o : Open) → o ∈ os → o .id ≡ t → ⊥
   not-own o m e = absurd (no-clash (any (isOpenAs t) os) (some-any (isOpenAs t) os (record { it = o; there = m; holds = equal-same (o .id) t e })) closed-to)
@@ -266,11 +271,12 @@ module _ (tb : Table) (log : List ℕ) (os : List Open) (r : Ready tb log os) (t
     where
       one : Some (λ (d : Entry). d .number ≡ n) (entriesOpen os) → n ∈ map (λ (x : Enlistment). x .number) (tb .enlistments)
       one d = let w : Some (λ o. d .it ∈ o .entries) os = of-entries os (d .there) in
-        let y : Some (λ y. y .number ≡ d .it .number) (tb .enlistments) = open-number (w .it) (w .there) (d .it) (w .holds) .1 in
-        Memᴰ·cast (sym (y .holds ∙ d .holds)) (in-map (λ (x : Enlistment). x .number) (y .there))
+          let y : Some (λ y. y .number ≡ d .it .number) (tb .enlistments) = open-number (w .it) (w .there) (d .it) (w .holds) .1 in
+          Memᴰ·cast (sym (y .holds ∙ d .holds)) (in-map (λ (x : Enlistment). x .number) (y .there))
+
       two : Some (λ (x : Enlistment). x .number ≡ n) ds → n ∈ map (λ (x : Enlistment). x .number) (tb .enlistments)
       two x = let y : Some (λ y. (x .it .rm .0 ≡ y .rm .0) × (x .it .number ≡ y .number)) (held p tb) = came (x .it) (x .there) in
-        Memᴰ·cast (sym (sym (y .holds .1) ∙ x .holds)) (in-map (λ (x : Enlistment). x .number) (of-held p tb (y .there) .0))
+          Memᴰ·cast (sym (sym (y .holds .1) ∙ x .holds)) (in-map (λ (x : Enlistment). x .number) (of-held p tb (y .there) .0))
 
   pub commit-fit : FitCommit os t (map entryOf ds)
   commit-fit = record {
@@ -281,11 +287,13 @@ module _ (tb : Table) (log : List ℕ) (os : List Open) (r : Ready tb log os) (t
     numbers-new = each-none (λ e. any (λ d. eqb (d .number) (e .number)) (entriesOpen os)) (map entryOf ds) (λ e m. each-none (λ d. eqb (d .number) (e .number)) (entriesOpen os) (λ d i. fresh e d (of-map entryOf ds m) i));
     managers-differ = apart-differ sameEntryManager (λ x y e. sym (same-equal (y .rm) (x .rm) e)) (map entryOf ds) (apart-map entryOf ds managers);
     few = rw (r .transactions-many) at (open-and-one tb t p os (at .here) undecided (r .fit .ids-apart) (λ o m. open-at tb log os r o m));
-    few-entries = omega (arith, no-more all-numbers (map (λ (x : Enlistment). x .number) (tb .enlistments)) numbers-all-apart numbers-held, length-append (map (λ (d : Entry). d .number) (entriesOpen os)) (map (λ (x : Enlistment). x .number) ds), length-map (entriesOpen os) (λ (d : Entry). d .number), length-map ds (λ (x : Enlistment). x .number), length-map (tb .enlistments) (λ (x : Enlistment). x .number), r .enlistments-many, length-map ds entryOf) }
+    few-entries = omega (arith, no-more all-numbers (map (λ (x : Enlistment). x .number) (tb .enlistments)) numbers-all-apart numbers-held, length-append (map (λ (d : Entry). d .number) (entriesOpen os)) (map (λ (x : Enlistment). x .number) ds), length-map (entriesOpen os) (λ (d : Entry). d .number), length-map ds (λ (x : Enlistment). x .number), length-map (tb .enlistments) (λ (x : Enlistment). x .number), r .enlistments-many, length-map ds entryOf);
+  }
     where
       manager : (e : Entry) → Some (λ x. entryOf x ≡ e) ds → isZero (e .rm) ≡ false
       manager e s = let y : Some (λ y. (s .it .rm .0 ≡ y .rm .0) × (s .it .number ≡ y .number)) (held p tb) = came (s .it) (s .there) in
-        ap isZero (sym (ap (λ (e : Entry). e .rm) (s .holds)) ∙ y .holds .0) ∙ nonzero (y .it .rm .0) (r .sound .manager-identifiers (y .it) (of-held p tb (y .there) .0) (here-held (y .there)))
+          ap isZero (sym (ap (λ (e : Entry). e .rm) (s .holds)) ∙ y .holds .0) ∙ nonzero (y .it .rm .0) (r .sound .manager-identifiers (y .it) (of-held p tb (y .there) .0) (here-held (y .there)))
+
       fresh : (e d : Entry) → Some (λ x. entryOf x ≡ e) ds → d ∈ entriesOpen os → eqb (d .number) (e .number) ≡ false
       fresh e d s i = ne-eqb (d .number) (e .number) (λ c. new-numbers d (s .it) i (s .there) (c ∙ sym (ap (λ (e : Entry). e .number) (s .holds))))
 

@@ -1,12 +1,11 @@
 -- A step keeps how many places the table has, the capacity, and the length of the log: each verb does, and so does all that is made of them.
 use Prim.Native.Nat.{ℕ}
 use mathlib.Core.Path.{_≡_, refl, _∙_}
-use mathlib.Core.Bool.{Bool, cond, _&&_}
+use mathlib.Core.Bool.{_&&_}
 use mathlib.Core.List.{List, [], _∷_, map}
 use lib.Dec.{eqb}
 use lib.ListN.{length, length-map}
 use Rattle.lists.specs.Lists.{all, any, none, filter}
-use Rattle.lists.specs.Places.{changeAt, putLowest}
 use Rattle.lists.proofs.Places.{length-change, length-put}
 use Rattle.rules.specs.declared.Transaction.{Transaction}
 use Rattle.rules.specs.declared.Enlistment.{Enlistment}
@@ -21,16 +20,14 @@ use Rattle.rules.specs.declared.FollowUp.{FollowUp}
 use Rattle.rules.specs.declared.FollowUp.the-variants as then
 use Rattle.rules.specs.declared.Reaction.{Reaction}
 use Rattle.rules.specs.declared.Reaction.the-variants as reaction
-use Rattle.rules.specs.declared.Name.the-variants as name
 use Rattle.rules.specs.TransactionState as transaction
 use Rattle.rules.specs.EnlistmentState as enlistment
 use Rattle.rules.specs.RefusalNumber as refusal
 use Rattle.rules.specs.Identifiers.{Id}
-use Rattle.rules.specs.Table.{stateAt, idAt, isFree, isVacant, held, numbered, isPhaseZero, isDurable, isMarked, isIn, isDone, inState, freed, ended, onHeld, onNumber, inTransactionState, withTransactions, withEnlistments, changeHeld, changeTransaction, changeNumber, goTo, emptied, useMore, placeNamed}
+use Rattle.rules.specs.Table.{stateAt, idAt, isFree, isVacant, held, numbered, isPhaseZero, isDurable, isMarked, isIn, isDone, inState, freed, ended, onHeld, onNumber, inTransactionState, withEnlistments, changeHeld, changeTransaction, changeNumber, goTo, emptied, useMore, placeNamed}
 use Rattle.rules.specs.Sound.{isOpen}
 use Rattle.rules.specs.Log.{Record, recordBytes}
-use Rattle.rules.specs.Signals.{signal, toEach, toApp}
-use Rattle.rules.specs.Events.{Outcome, quietly, saying, append, endOf, endIfDone, hearsAbort, abortedOf, abortOf, lacksRoom, committedOf, commitSignals, committing, commitRecord, endCommitted, decideOf, startPhaseOne, beginOf, newEnlistment, enlistOf, zeroedOf, commitOf, follow, react, reactedOf, reactionOf, isOver, isUndone, toldAgain, askOf, doneFor, finished, endEach, reenlistedOf, acted, acceptedOf}
+use Rattle.rules.specs.Events.{Outcome, quietly, saying, append, endOf, endIfDone, abortedOf, abortOf, lacksRoom, committedOf, committing, commitRecord, endCommitted, decideOf, startPhaseOne, beginOf, newEnlistment, enlistOf, zeroedOf, commitOf, follow, react, reactedOf, reactionOf, isOver, toldAgain, askOf, doneFor, finished, endEach, reenlistedOf, acted, acceptedOf}
 use Rattle.rules.specs.Refusals.{refusalOf}
 use Rattle.rules.specs.Step.{Step, doneStep, refusedStep, stepOf}
 use Rattle.rules.proofs.Frames.{length-written}

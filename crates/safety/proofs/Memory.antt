@@ -1,7 +1,6 @@
 -- A decision is remembered: what is always true of a transaction of which a committed message has left, and about which somebody may
 -- ask, leaves it no other state than Committing.
-use Prim.Native.Nat.{ℕ, zero, suc}
-use native.Mathlib.Omega.{arith}
+use Prim.Native.Nat.{ℕ}
 use mathlib.Core.Path.{_≡_, refl, sym, _∙_}
 use mathlib.Core.Logic.{inl, inr}
 use mathlib.Core.List.{List, [], _∷_}

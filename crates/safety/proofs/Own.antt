@@ -307,13 +307,16 @@ module _ (tb : Table) (e : Event) (log : List ℕ) (t : Id) (p : ℕ) (tb₁ : T
             where
               go : (s : Story) → s ≡ alone.none → Tells t s os → mine t os ≡ []
               go s e h = rw e at h
+
           fit : (os : List Open) → Ready tb log os → FitCommit os t entries
           fit os r = commit-fit tb log os r t p (z .before) undecided (closed-to os r) ds (λ x m. z .came x (of-filter isDurable hs₁ (of-sort byNumber (filter isDurable hs₁) m) .0))
-            (sorted-sort (orders-by (λ (y : Enlistment). y .number) orders-numbers) (filter isDurable hs₁))
-            (apart-sort byNumber (λ x y r. sym r) (filter isDurable hs₁) (apart-filter isDurable hs₁ (z .numbers-apart)))
-            (apart-sort byNumber (λ x y r. sym r) (filter isDurable hs₁) (z .managers-apart))
+              (sorted-sort (orders-by (λ (y : Enlistment). y .number) orders-numbers) (filter isDurable hs₁))
+              (apart-sort byNumber (λ x y r. sym r) (filter isDurable hs₁) (apart-filter isDurable hs₁ (z .numbers-apart)))
+              (apart-sort byNumber (λ x y r. sym r) (filter isDurable hs₁) (z .managers-apart))
+
           known : (os : List Open) → Ready tb log os → length os ≤ openCount tb₁
           known os r = open-count tb₁ os (r .fit .ids-apart) (λ o m. open-shown o tb₁ (rw (z .other-view (o .id) (λ q. no-clash (any (isOpenAs t) os) (some-any (isOpenAs t) os (record { it = o; there = m; holds = equal-same (o .id) t q })) (closed-to os r))) (shown-open tb log os r o m)))
+
           room : (os : List Open) → Ready tb log os → committing p tb₁ .used + length (recordBytes (Record.commit t entries)) + recordSize * length (os ++ (record { id = t; entries = entries } ∷ [])) ≤ length log
           room os r = rw (used-goes p transaction.committing committedOf tb₁, size, length-append os (record { id = t; entries = entries } ∷ [])) (omega (arith, fits, known os r))
 

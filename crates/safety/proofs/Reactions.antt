@@ -228,9 +228,9 @@ module _ (tb : Table) (log : List ℕ) (n : ℕ) (s : Sound tb) (full : length l
       → (e .holder ≡ p) × (onHeld p (onNumber n f) e .rm ≡ e .rm) × (onHeld p (onNumber n f) e .number ≡ e .number) × (onHeld p (onNumber n f) e .kind ≡ e .kind)
   kept-here f mild e h = by-test (heldBy p e)
       (λ b. by-either
-        (λ q. rw b (eqb-true (e .holder) p b, q .1, q .2, q .3))
-        (λ q. absurd (not-zero (named-place t p tb (nm .stands .here)) (sym (eqb-true (onNumber n f e .holder) p (rw b at h)) ∙ q)))
-        (mild-on f mild e))
+      (λ q. rw b (eqb-true (e .holder) p b, q .1, q .2, q .3))
+      (λ q. absurd (not-zero (named-place t p tb (nm .stands .here)) (sym (eqb-true (onNumber n f e .holder) p (rw b at h)) ∙ q)))
+      (mild-on f mild e))
       (λ b. no-clash (heldBy p e) (rw b at h) b)
 
   numbers-apart-after : (f : Enlistment → Enlistment) → Mild f → Apart (λ a b. a .number ≡ b .number) (held p (changed f))
@@ -249,6 +249,7 @@ module _ (tb : Table) (log : List ℕ) (n : ℕ) (s : Sound tb) (full : length l
     where
       g : Enlistment → Enlistment
       g = onHeld p (onNumber n f)
+
       k : (e : Enlistment) → (heldBy p (g e) && isDurable (g e)) ≡ true → (e .holder ≡ p) × (g e .rm ≡ e .rm) × (g e .number ≡ e .number) × (g e .kind ≡ e .kind)
       k e h = kept-here f mild e (true-and (heldBy p (g e)) (isDurable (g e)) h .0)
 

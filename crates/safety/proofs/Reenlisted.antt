@@ -136,17 +136,22 @@ module _ (r : Id) (tb : Table) (log : List ℕ) (s : Sound tb) (full : length lo
     opened = λ q b. opened q (sym (open-after q (stateAt q tb)) ∙ b);
     unlike = λ q k a b e. sym (stands-sound tb s (idAt q tb) q (is-named (transactionAt q tb) a) .alone k (rw e (is-named (transactionAt k tb) b)));
     sizes = λ q a. id-size tb s q a;
-    space = r .room }
+    space = r .room;
+  }
     where
       at : (q : ℕ) → isOpen (stateAt q tb) (held q tb) ≡ true → Stands (idAt q tb) q tb
       at q b = stands-sound tb s (idAt q tb) q (is-named (transactionAt q tb) (open-live q tb b))
+
       durable : (q : ℕ) → isOpen (stateAt q tb) (held q tb) ≡ true → any isDurable (held q tb) ≡ true
       durable q b = true-and (eqb (stateAt q tb) transaction.committing) (any isDurable (held q tb)) b .1
+
       shows : (q : ℕ) → isOpen (stateAt q tb) (held q tb) ≡ true → viewOf (idAt q tb) tb ≡ alone.committing (held q tb)
       shows q b = view-stands (idAt q tb) q tb (at q b) ∙ ap (λ n. look n (held q tb)) (live-open (stateAt q tb) (held q tb) b)
+
       told-open : (q : ℕ) → (k : Story) → any isDurable (held q tb) ≡ true → Agrees (alone.committing (held q tb)) k → Tells (idAt q tb) k os → any (isOpenAs (idAt q tb)) os ≡ true
       told-open q k d (inl (rs, e, y, n)) h = let w : Tells (idAt q tb) (alone.open-with rs) os = rw e at h in mine-some (idAt q tb) os (w .0) (w .1)
       told-open q k d (inr (e, y)) h = let w : Some (λ x. isDurable x ≡ true) (held q tb) = any-some isDurable (held q tb) d in absurd (y (w .it) (w .there) (eqb-true (w .it .kind) kind.durable (w .holds)))
+
       opened : (q : ℕ) → isOpen (stateAt q tb) (held q tb) ≡ true → (isZero (idAt q tb) ≡ false) × (any (isOpenAs (idAt q tb)) os ≡ true)
       opened q b = (live-nonzero tb s (idAt q tb) q (at q b), told-open q (r .storied (idAt q tb)) (durable q b) (rw (shows q b) at (r .agrees (idAt q tb))) (r .tells (idAt q tb)))
 

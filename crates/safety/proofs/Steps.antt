@@ -96,14 +96,17 @@ record Moved (tb : Table) (e : Event) (log : List ℕ) (o : Outcome) : Type 0 wh
   written : Written tb log (doneStep o)
 
 own-all : (tb : Table) (e : Event) (log : List ℕ) (o : Outcome) → Formed (usedPart tb log) → Own tb e log (subjectOf tb e) o → Moved tb e log o
-own-all tb e log o f w = record { written = record { records = w .records; valid = w .valid; bytes = w .bytes; judged = w .judged }; accepts = record {
-  formed = rw (w .bytes) (formed-append (usedPart tb log) f (w .records) (w .valid));
-  added = allBytes (w .records);
-  appended = w .bytes;
-  moves = λ h made t a. rw (w .bytes, story-more t (usedPart tb log) f (w .records) (w .valid)) (by-test (sameBytes t (subjectOf tb e))
-      (λ b. own h made t (same-equal t (subjectOf tb e) b) a)
-      (λ b. other h t (λ q. no-clash (sameBytes t (subjectOf tb e)) (rw q (same-refl (subjectOf tb e))) b)));
-  } }
+own-all tb e log o f w = record {
+  written = record { records = w .records; valid = w .valid; bytes = w .bytes; judged = w .judged };
+  accepts = record {
+    formed = rw (w .bytes) (formed-append (usedPart tb log) f (w .records) (w .valid));
+    added = allBytes (w .records);
+    appended = w .bytes;
+    moves = λ h made t a. rw (w .bytes, story-more t (usedPart tb log) f (w .records) (w .valid)) (by-test (sameBytes t (subjectOf tb e))
+        (λ b. own h made t (same-equal t (subjectOf tb e) b) a)
+        (λ b. other h t (λ q. no-clash (sameBytes t (subjectOf tb e)) (rw q (same-refl (subjectOf tb e))) b)));
+  };
+}
   where
     l : Id → Story
     l t = storyOf t (usedPart tb log)
@@ -122,13 +125,14 @@ reenlisted-all : (tb : Table) (x : TxId) (y : RmId) (log : List ℕ) → Sound t
     → Moved tb (record { tx = x; rm = y; act = act.Reenlisted }) log (reenlistedOf (y .0) tb log)
 unfolding after told
 reenlisted-all tb x y log s full f = rw (reenlisted-is (y .0) tb log s full) (record {
-    written = record { records = rs; valid = valid; bytes = bytes; judged = reenlisted-judged (y .0) tb log s full };
-    accepts = record {
-      formed = rw bytes (formed-append (usedPart tb log) f rs valid);
-      added = allBytes rs;
-      appended = bytes;
-      moves = λ h made t a. rw (bytes, story-more t (usedPart tb log) f rs valid, each-silent places table log) (reenlisted-move (y .0) tb log s full t h (storyOf t (usedPart tb log)) a);
-    } })
+  written = record { records = rs; valid = valid; bytes = bytes; judged = reenlisted-judged (y .0) tb log s full };
+  accepts = record {
+    formed = rw bytes (formed-append (usedPart tb log) f rs valid);
+    added = allBytes rs;
+    appended = bytes;
+    moves = λ h made t a. rw (bytes, story-more t (usedPart tb log) f rs valid, each-silent places table log) (reenlisted-move (y .0) tb log s full t h (storyOf t (usedPart tb log)) a);
+  };
+})
   where
     table : Table
     table = after (y .0) tb log s full
