@@ -48,12 +48,6 @@ below-refl (open-with rs) = refl
 below-refl closed = tt
 below-refl bad = tt
 
-pub below-bad : (s : Story) → Below s bad
-below-bad none = tt
-below-bad (open-with rs) = tt
-below-bad closed = tt
-below-bad bad = tt
-
 pub below-trans : (a b c : Story) → Below a b → Below b c → Below a c
 below-trans none b c p q = tt
 below-trans (open-with rs) none c p q = elim p [ ]

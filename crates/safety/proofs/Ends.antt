@@ -119,10 +119,6 @@ module _ (p : ℕ) (tb : Table) (log : List ℕ) where
   unfolding changeHeld
   ends-elsewhere q d = ends-at q ∙ at-other p ended (changeHeld p freed tb) q d
 
-  pub ends-silent : o .signals ≡ []
-  unfolding endOf append
-  ends-silent = by-cases (λ (w : Outcome). w .signals ≡ []) (isOpen (stateAt p tb) (held p tb)) _ _ (λ _. refl) (λ _. refl)
-
   module _ (g : Roomy tb log) where
     ends-valid : Each Valid (forgetOf p tb)
     unfolding forgetOf

@@ -62,9 +62,6 @@ module _ (tb₀ : Table) (log₀ : List ℕ) where
   same-emptied : (p : ℕ) {tb : Table} {log : List ℕ} → S tb log → S (emptied p tb) log
   same-emptied p s = same-transaction (same-held s p freed) p ended
 
-  quiet-same : {tb : Table} {log : List ℕ} (ss : List Signal) → S tb log → SameOutcome (saying ss (quietly tb log))
-  quiet-same ss s = record { is = s }
-
   append-same : (r : Record) (tb : Table) (log : List ℕ) → S tb log → SameOutcome (append r tb log)
   unfolding append useMore
   append-same r tb log s = record { is = record { transactions = s .transactions; enlistments = s .enlistments; capacity = s .capacity; bytes = length-written (tb .used) (recordBytes r) log ∙ s .bytes } }

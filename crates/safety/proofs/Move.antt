@@ -165,10 +165,6 @@ module _ (t : Id) where
     abbrev pub Aborted′ : Type 0
     Aborted′ = Any t Aborted (issue im ms ++ wa) se
 
-    new-waits : NoAsk t (x ∷ h) ⊎ Logged l′ → (New t Committed ms → NoAsk t (x ∷ h) ⊎ Logged (S im))
-    new-waits (inl n) m = inl n
-    new-waits (inr g) m = inr (rw img g)
-
     -- a commit message among those that wait is new, or waited before
     waits-cases : (i : Issued) → i ∈ issue im ms ++ wa → i .message .about ≡ t → Committed (i .message .name)
         → (New t Committed ms → NoAsk t (x ∷ h) ⊎ Logged l′)

@@ -165,10 +165,6 @@ module _ (capacity used : ℕ) (os : List Open) (k : Fit os) (header : headerSiz
   of-held-ones : (x : Enlistment) → x ∈ tb .enlistments → Held x → Stands-at 1 os zs x
   of-held-ones x m h = by-either (λ w. w) (λ e. absurd (h (ap (λ (y : Enlistment). y .holder) e))) (of-enlistments x m)
 
-  place-is : (p : ℕ) → transactionAt p tb ≡ atFrom noTransaction 1 p (map reopened os ++ zs)
-  unfolding tableOf
-  place-is p = refl
-
   found : (p : ℕ) → Live (transactionAt p tb) → Live-at 1 p os (transactionAt p tb)
   unfolding tableOf
   found p l = live-at 1 p os (transactionPlaces - length os) l

@@ -32,7 +32,7 @@ restarts : {w : World} → Run careful w → (extra : List ℕ) → Run careful 
 restarts {w} r extra = restart r (w .disk ++ extra) (length (w .disk)) (extra, refl, refl)
 
 -- a world that a run reaches, and in which a message about t has left
-abbrev Reaches : (World → Type 0) → Type 0
+abbrev pub Reaches : (World → Type 0) → Type 0
 Reaches P = (w : World) × Run careful w × P w
 
 -- ── committed in two phases ─────────────────────────────────────────────────────────────────────────────────────
@@ -40,7 +40,7 @@ Reaches P = (w : World) × Run careful w × P w
 record-of-7 : List ℕ
 record-of-7 = 1 ∷ 1 ∷ id 7 ++ (id 21 ++ (1 ∷ 0 ∷ 0 ∷ 0 ∷ []))
 
-two-phase : Reaches (λ w. About (id 7) Committed (w .sent))
+pub two-phase : Reaches (λ w. About (id 7) Committed (w .sent))
 unfolding computing told messageOf empty afterStep withDisk afterLeaving afterRestart record-of-7
 two-phase = (
   _,
@@ -55,7 +55,7 @@ two-phase = (
 
 -- ── in single phase ─────────────────────────────────────────────────────────────────────────────────────────────
 
-single-phase : Reaches (λ w. About (id 7) Committed (w .sent))
+pub single-phase : Reaches (λ w. About (id 7) Committed (w .sent))
 unfolding computing told messageOf empty afterStep withDisk afterLeaving afterRestart
 single-phase = (
   _,
@@ -70,7 +70,7 @@ single-phase = (
 
 -- ── through a cut, a restart and an ask ─────────────────────────────────────────────────────────────────────────
 
-restart-and-ask : Reaches (λ w. About (id 7) Committed (w .sent))
+pub restart-and-ask : Reaches (λ w. About (id 7) Committed (w .sent))
 unfolding computing told messageOf empty afterStep withDisk afterLeaving afterRestart record-of-7
 restart-and-ask = (
   _,
@@ -86,7 +86,7 @@ restart-and-ask = (
 
 -- ── aborted ─────────────────────────────────────────────────────────────────────────────────────────────────────
 
-rolled-back : Reaches (λ w. About (id 7) Aborted (w .sent))
+pub rolled-back : Reaches (λ w. About (id 7) Aborted (w .sent))
 unfolding computing told messageOf empty afterStep withDisk afterLeaving afterRestart
 rolled-back = (
   _,
@@ -101,7 +101,7 @@ rolled-back = (
 
 -- ── power fails inside the commit record: 20 of its 38 bytes are stored, and the resource manager asks ──────────
 
-inside-the-record : Reaches (λ w. About (id 7) Aborted (w .sent))
+pub inside-the-record : Reaches (λ w. About (id 7) Aborted (w .sent))
 unfolding computing told messageOf empty afterStep withDisk afterLeaving afterRestart record-of-7
 inside-the-record = (
   _,
@@ -118,7 +118,7 @@ inside-the-record = (
 
 -- ── power fails inside the header: 3 of its 8 bytes are stored ──────────────────────────────────────────────────
 
-inside-the-header : Reaches (λ w. About (id 7) Committed (w .sent))
+pub inside-the-header : Reaches (λ w. About (id 7) Committed (w .sent))
 unfolding computing told messageOf empty afterStep withDisk afterLeaving afterRestart
 inside-the-header = (
   _,
