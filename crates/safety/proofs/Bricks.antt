@@ -9,7 +9,7 @@ use mathlib.Core.List.{List, [], _∷_, _++_, map, append-assoc, Memᴰ·append-
 use lib.ListN.{length, take, drop, replicate, length-append, length-map, length-drop, length-replicate}
 use lib.Seq.{length-take-le, take-append-le, take-append-seam}
 use lib.Dec.{eqb, ltb}
-use borrow.Author.Tests.{le-ltb, ltb-true, ltb-false}
+use borrow.Author.Tests.{le-ltb, ltb-true, ltb-false, eq-eqb}
 use Rattle.lists.specs.Lists.{filter}
 use Rattle.lists.specs.Members.{Each, Apart}
 use Rattle.lists.proofs.Tests.{by-test, by-either, no-clash, is-false, and-true, true-and, or-false, false-or, not-false, false-not, each-nothing, each-head, each-rest, filter-all}
@@ -18,7 +18,7 @@ use Rattle.rules.specs.declared.Event.{Event}
 use Rattle.rules.specs.Sizes.{headerSize, recordSize, transactionPlaces, enlistmentPlaces, leastCapacity, largestCapacity}
 use Rattle.rules.specs.Identifiers.{Id, sameBytes}
 use Rattle.rules.specs.Table.{noTransaction, noEnlistment, freshOf}
-use Rattle.rules.specs.Sound.{soundOf}
+use Rattle.rules.specs.Sound.{soundOf, Sound}
 use Rattle.rules.specs.Log.{Record, header, recordBytes, allBytes, forgetSize, scan, behind, beginsNone}
 use Rattle.rules.specs.RefusalNumber as refusal
 use Rattle.rules.specs.Restart.{Open, isOpenAs, afterRecord, openAfter, isFitting, allFitting, entriesOpen, reopened, reenlistment, reenlistments, tableOf, Restart, refusedRestart, doneRestart, usedOf, isDamaged, isTooShort, readBack, isOutside, restartOf}
@@ -153,6 +153,10 @@ many-enlistments : (os : List Open) → length (entriesOpen os) ≤ enlistmentPl
 unfolding tableOf
 many-enlistments os h capacity used = length-append (reenlistments 1 os) (replicate (enlistmentPlaces - length (reenlistments 1 os)) noEnlistment) ∙ omega (arith, h, as-entries 1 os, length-replicate (enlistmentPlaces - length (reenlistments 1 os)) noEnlistment)
 
+fresh-sound : (capacity : ℕ) → leastCapacity ≤ capacity → capacity ≤ largestCapacity → Sound (freshOf capacity)
+unfolding tableOf reenlistments
+fresh-sound capacity l m = reopened-sound capacity headerSize [] fit-nothing (omega arith) (omega arith) m
+
 fresh-readable : (log : List ℕ) → leastCapacity ≤ length log → length log ≤ largestCapacity → Readable (freshOf (length log)) (header ++ drop headerSize log)
 unfolding allBytes allFitting openAfter
 fresh-readable log l m = record {
@@ -191,12 +195,21 @@ module _ (disk spare rest : List ℕ) (f : Formed (disk ++ rest)) (h : headerSiz
   unfolding tableOf
   table-used capacity used qs = (refl, refl)
 
+  undamaged : isDamaged body ≡ false → allFitting [] rs ≡ true
+  undamaged d = rw (restarts.scan-is disk spare rest f h) at (not-false (allFitting [] (scan 0 body)) (false-or (beginsNone (behind 0 body)) (not (allFitting [] (scan 0 body))) d .1))
+
+  roomy : isTooShort body (length (disk ++ spare)) ≡ false → usedOf body + recordSize * length os ≤ length (disk ++ spare)
+  roomy t = rw (restarts.scan-is disk spare rest f h) at (ltb-false (length (disk ++ spare)) (usedOf body + forgetSize * length (openAfter [] (scan 0 body))) t)
+
+  long-sound : isDamaged body ≡ false → isTooShort body (length (disk ++ spare)) ≡ false → length (disk ++ spare) ≤ largestCapacity → Sound (tableOf (length (disk ++ spare)) (usedOf body) (openAfter [] (scan 0 body)))
+  long-sound d t m = rw (restarts.scan-is disk spare rest f h) (reopened-sound (length (disk ++ spare)) (usedOf body) os (fit (undamaged d)) (omega arith) (roomy t) m)
+
   long-readable : isDamaged body ≡ false → isTooShort body (length (disk ++ spare)) ≡ false → leastCapacity ≤ length (disk ++ spare) → length (disk ++ spare) ≤ largestCapacity
       → Readable (tableOf (length (disk ++ spare)) (usedOf body) (openAfter [] (scan 0 body))) (disk ++ spare)
   long-readable d t l m = rw (restarts.scan-is disk spare rest f h) (record {
     formed = record { records = rs; valid = restarts.ok disk spare rest f h; bytes = ap (λ n. take n (disk ++ spare)) (table-used (length (disk ++ spare)) (usedOf body) os .0) ∙ restarts.used-part disk spare rest f h };
     fitting = fitting;
-    room = rw (table-used (length (disk ++ spare)) (usedOf body) os .0) (rw (restarts.scan-is disk spare rest f h) at (ltb-false (length (disk ++ spare)) (usedOf body + forgetSize * length (openAfter [] (scan 0 body))) t));
+    room = rw (table-used (length (disk ++ spare)) (usedOf body) os .0) (roomy t);
     transactions-many = many-transactions os (fit fitting .few) (length (disk ++ spare)) (usedOf body);
     enlistments-many = many-enlistments os (fit fitting .few-entries) (length (disk ++ spare)) (usedOf body);
     capacity = table-used (length (disk ++ spare)) (usedOf body) os .1;
@@ -205,7 +218,7 @@ module _ (disk spare rest : List ℕ) (f : Formed (disk ++ rest)) (h : headerSiz
   })
     where
       fitting : allFitting [] rs ≡ true
-      fitting = rw (restarts.scan-is disk spare rest f h) at (not-false (allFitting [] (scan 0 body)) (false-or (beginsNone (behind 0 body)) (not (allFitting [] (scan 0 body))) d .1))
+      fitting = undamaged d
 
   -- where the records fit and there is room for them, nothing is refused
   long-good : allFitting [] rs ≡ true → length (header ++ allBytes rs) + recordSize * length os ≤ length (disk ++ spare) → length (disk ++ spare) ≤ largestCapacity → Good (readBack body (disk ++ spare))
@@ -221,20 +234,21 @@ module _ (disk spare rest : List ℕ) (f : Formed (disk ++ rest)) (h : headerSiz
 
 record Reads (s : Restart) : Type 0 where
   gives : eqb (s .refusal) 0 ≡ true → Readable (s .table) (s .log)
+  sound : eqb (s .refusal) 0 ≡ true → Sound (s .table)
 
 refused-reads : (log : List ℕ) (why : ℕ) → eqb why 0 ≡ false → Reads (refusedRestart why log)
-refused-reads log why q = record { gives = λ e. no-clash (eqb why 0) e q }
+refused-reads log why q = record { gives = λ e. no-clash (eqb why 0) e q; sound = λ e. no-clash (eqb why 0) e q }
 
 restart-reads : (disk spare rest : List ℕ) → Formed (disk ++ rest) → Reads (restartOf (disk ++ spare) (length disk))
 unfolding restartOf readBack
 restart-reads disk spare rest f = by-cases Reads (isOutside (disk ++ spare) (length disk)) _ _ (λ _. refused-reads (disk ++ spare) refusal.damagedLog refl) (λ b.
     by-cases Reads (ltb (length disk) headerSize) _ _
     (λ q. by-cases Reads (sameBytes (take (length disk) (disk ++ spare)) (take (length disk) header)) _ _
-    (λ _. record { gives = λ _. fresh-readable (disk ++ spare) (bounds b .0) (bounds b .1) }) (λ _. refused-reads (disk ++ spare) refusal.damagedLog refl))
+    (λ _. record { gives = λ _. fresh-readable (disk ++ spare) (bounds b .0) (bounds b .1); sound = λ _. fresh-sound (length (disk ++ spare)) (bounds b .0) (bounds b .1) }) (λ _. refused-reads (disk ++ spare) refusal.damagedLog refl))
     (λ q. by-cases Reads (sameBytes (take headerSize (disk ++ spare)) header) _ _
     (λ _. subst (λ (l : List ℕ). Reads (readBack (drop headerSize l) (disk ++ spare))) (sym (take-append-seam disk spare))
     (by-cases Reads (isDamaged (drop headerSize disk)) _ _ (λ _. refused-reads (disk ++ spare) refusal.damagedLog refl) (λ d. by-cases Reads (isTooShort (drop headerSize disk) (length (disk ++ spare))) _ _ (λ _. refused-reads (disk ++ spare) refusal.logTooShort refl)
-    (λ t. record { gives = λ _. long-readable disk spare rest f (ltb-false (length disk) headerSize q) d t (bounds b .0) (bounds b .1) }))))
+    (λ t. record { gives = λ _. long-readable disk spare rest f (ltb-false (length disk) headerSize q) d t (bounds b .0) (bounds b .1); sound = λ _. long-sound disk spare rest f (ltb-false (length disk) headerSize q) d t (bounds b .1) }))))
     (λ _. refused-reads (disk ++ spare) refusal.damagedLog refl)))
   where
     bounds : isOutside (disk ++ spare) (length disk) ≡ false → (leastCapacity ≤ length (disk ++ spare)) × (length (disk ++ spare) ≤ largestCapacity)
@@ -283,8 +297,7 @@ module _ (w : World) (g : Readable (w .table) (w .log)) (rest : List ℕ) (p : w
   begins l = take-append-seam (w .disk) spare ∙ sym (take-append-seam (w .disk) rest) ∙ ap (take (length (w .disk))) (p ∙ g .formed .bytes) ∙ take-append-le (length (w .disk)) header (allBytes (g .formed .records)) (omega arith)
 
   fresh-good : Good (doneRestart (freshOf (length (w .disk ++ spare))) (header ++ drop headerSize (w .disk ++ spare)))
-  unfolding tableOf reenlistments
-  fresh-good = record { accepted = refl; sound = sentences-sound (freshOf (length (w .disk ++ spare))) (reopened-sound (length (w .disk ++ spare)) headerSize [] fit-nothing (omega arith) (omega (arith, size, g .least)) (omega (arith, size, g .most))) }
+  fresh-good = record { accepted = refl; sound = sentences-sound (freshOf (length (w .disk ++ spare))) (fresh-sound (length (w .disk ++ spare)) (omega (arith, size, g .least)) (omega (arith, size, g .most))) }
 
   module _ (h : headerSize ≤ length (w .disk)) where
     abbrev kept-ones : List Record
@@ -335,3 +348,14 @@ module _ (w : World) (g : Readable (w .table) (w .log)) (rest : List ℕ) (p : w
 pub never-bricked : NeverBricked
 unfolding NeverBricked
 never-bricked w run used (rest, p) spare same = by-either (λ z. absurd (used z)) (λ g. (restart-good w g rest p spare same .accepted, restart-good w g rest p spare same .sound)) (kept run)
+
+-- an accepted restart, whatever its capacity, gives a sound table, for which the log has the right length
+pub record Restarts-well (s : Restart) : Type 0 where
+  pub sound : Sound (s .table)
+  pub full : length (s .log) ≡ s .table .capacity
+
+pub restarts-well : (w : World) → Run careful w → (spare : List ℕ) → restartOf (w .disk ++ spare) (length (w .disk)) .refusal ≡ refusal.accepted → Restarts-well (restartOf (w .disk ++ spare) (length (w .disk)))
+restarts-well w run spare q = record { sound = r .sound (eq-eqb _ 0 q); full = sym (r .gives (eq-eqb _ 0 q) .capacity) }
+  where
+    r : Reads (restartOf (w .disk ++ spare) (length (w .disk)))
+    r = restart-reads (w .disk) spare (stored-rest w (inv refines run) .0) (stored-rest w (inv refines run) .1)

@@ -11,7 +11,6 @@ use Rattle.rules.specs.declared.Transaction.{Transaction}
 use Rattle.rules.specs.declared.Enlistment.{Enlistment}
 use Rattle.rules.specs.declared.Table.{Table}
 use Rattle.rules.specs.declared.Event.{Event}
-use Rattle.rules.specs.declared.Signal.{Signal}
 use Rattle.rules.specs.declared.Act.{Act}
 use Rattle.rules.specs.declared.Act.the-variants as act
 use Rattle.rules.specs.declared.Kind.{Kind}
@@ -27,7 +26,7 @@ use Rattle.rules.specs.Identifiers.{Id}
 use Rattle.rules.specs.Table.{stateAt, idAt, isFree, isVacant, held, numbered, isPhaseZero, isDurable, isMarked, isIn, isDone, inState, freed, ended, onHeld, onNumber, inTransactionState, withEnlistments, changeHeld, changeTransaction, changeNumber, goTo, emptied, useMore, placeNamed}
 use Rattle.rules.specs.Sound.{isOpen}
 use Rattle.rules.specs.Log.{Record, recordBytes}
-use Rattle.rules.specs.Events.{Outcome, quietly, saying, append, endOf, endIfDone, abortedOf, abortOf, lacksRoom, committedOf, committing, commitRecord, endCommitted, decideOf, startPhaseOne, beginOf, newEnlistment, enlistOf, zeroedOf, commitOf, follow, react, reactedOf, reactionOf, isOver, toldAgain, askOf, doneFor, finished, endEach, reenlistedOf, acted, acceptedOf}
+use Rattle.rules.specs.Events.{Outcome, append, endOf, endIfDone, abortedOf, abortOf, lacksRoom, committedOf, committing, commitRecord, endCommitted, decideOf, startPhaseOne, beginOf, newEnlistment, enlistOf, zeroedOf, commitOf, follow, react, reactedOf, reactionOf, isOver, toldAgain, askOf, doneFor, finished, endEach, reenlistedOf, acted, acceptedOf}
 use Rattle.rules.specs.Refusals.{refusalOf}
 use Rattle.rules.specs.Step.{Step, doneStep, refusedStep, stepOf}
 use Rattle.rules.proofs.Frames.{length-written}

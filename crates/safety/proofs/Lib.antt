@@ -22,3 +22,4 @@ pub mod Reopened
 pub mod Fitting
 pub mod Lengths
 pub mod Bricks
+pub mod Asked

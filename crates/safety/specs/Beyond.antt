@@ -20,7 +20,7 @@ use Rattle.rules.specs.Signals.{signal}
 use Rattle.rules.specs.Step.{stepOf}
 use Rattle.rules.specs.Restart.{restartOf}
 use Rattle.safety.specs.World.{World, usedPart}
-use Rattle.safety.specs.Host.{MayAsk, careful}
+use Rattle.safety.specs.Host.{MayAsk, WholeStored, careful}
 use Rattle.safety.specs.Run.{Run}
 use Rattle.safety.specs.Demand3.{Committed, About}
 
@@ -52,6 +52,12 @@ Remembered = (w : World) → Run careful w → (w .table .used ≡ 0 → ⊥) �
 unfoldable pub AnsweredCommitted : Type 0
 AnsweredCommitted = (w : World) → Run careful w → (e : Event) → e .act ≡ act.Ask → About (e .tx .0) Committed (w .sent) → MayAsk (e .tx .0) (e .rm .0) (w .notes)
     → stepOf (w .table) e (w .log) .refusal ≡ refusal.accepted → (n : ℕ) × (stepOf (w .table) e (w .log) .signals ≡ signal name.AnswerCommitted n ∷ [])
+
+-- And right after an accepted restart, whatever its capacity, such an ask is accepted.
+unfoldable pub AskAccepted : Type 0
+AskAccepted = (w : World) → Run careful w → (log : List ℕ) (n : ℕ) → WholeStored w log n → restartOf log n .refusal ≡ refusal.accepted
+    → (e : Event) → e .act ≡ act.Ask → About (e .tx .0) Committed (w .sent) → MayAsk (e .tx .0) (e .rm .0) (w .notes)
+    → stepOf (restartOf log n .table) e (restartOf log n .log) .refusal ≡ refusal.accepted
 
 -- ── the slip that started it: a reconnecting participant of a Committing transaction is answered aborted ────────
 
