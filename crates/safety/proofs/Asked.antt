@@ -33,7 +33,7 @@ use Rattle.safety.proofs.View.{state-none}
 use Rattle.safety.proofs.Given.{stands-sound}
 use Rattle.safety.proofs.Fitting.{live-nonzero}
 use Rattle.safety.proofs.Memory.{remembered}
-use Rattle.safety.proofs.Bricks.{Restarts-well, restarts-well}
+use Rattle.safety.proofs.Bricks.{RestartsWell, restarts-well}
 
 module _ (tb : Table) (s : Sound tb) (e : Event) (is-ask : e .act ≡ act.Ask) (m : Remembers (e .tx .0) (e .rm .0) tb) where
   abbrev p : ℕ
@@ -79,7 +79,7 @@ ask-accepted w run log n (spare, p, q) ok e is-ask c m = rw (p, q) (go (rw (p, q
         r-log : List ℕ
         r-log = restartOf (w .disk ++ spare) (length (w .disk)) .log
 
-        well : Restarts-well (restartOf (w .disk ++ spare) (length (w .disk)))
+        well : RestartsWell (restartOf (w .disk ++ spare) (length (w .disk)))
         well = restarts-well w run spare ok
 
         used : r-table .used ≡ 0 → ⊥

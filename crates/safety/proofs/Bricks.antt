@@ -350,11 +350,11 @@ unfolding NeverBricked
 never-bricked w run used (rest, p) spare same = by-either (λ z. absurd (used z)) (λ g. (restart-good w g rest p spare same .accepted, restart-good w g rest p spare same .sound)) (kept run)
 
 -- an accepted restart, whatever its capacity, gives a sound table, for which the log has the right length
-pub record Restarts-well (s : Restart) : Type 0 where
+pub record RestartsWell (s : Restart) : Type 0 where
   pub sound : Sound (s .table)
   pub full : length (s .log) ≡ s .table .capacity
 
-pub restarts-well : (w : World) → Run careful w → (spare : List ℕ) → restartOf (w .disk ++ spare) (length (w .disk)) .refusal ≡ refusal.accepted → Restarts-well (restartOf (w .disk ++ spare) (length (w .disk)))
+pub restarts-well : (w : World) → Run careful w → (spare : List ℕ) → restartOf (w .disk ++ spare) (length (w .disk)) .refusal ≡ refusal.accepted → RestartsWell (restartOf (w .disk ++ spare) (length (w .disk)))
 restarts-well w run spare q = record { sound = r .sound (eq-eqb _ 0 q); full = sym (r .gives (eq-eqb _ 0 q) .capacity) }
   where
     r : Reads (restartOf (w .disk ++ spare) (length (w .disk)))

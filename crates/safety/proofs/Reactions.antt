@@ -328,16 +328,16 @@ module _ (tb : Table) (log : List ℕ) (n : ℕ) (s : Sound tb) (full : length l
         go (yes q) = inl (me .rm .0, me .kind, v, ap (λ k. Note.voted t k (me .rm .0) (me .kind) v) (sym q), yes-vote)
         go (no q) = inr (keep-others (Preparing m) f (λ w. q (sym (w .0) ∙ nm .number)) h)
 
-    abbrev Has-voted : (f : Enlistment → Enlistment) → Mild f → Type 0
-    Has-voted f mild = Voted tb ev log t p (changed f) (touched f mild) refl hs (noteOf tb ev)
+    abbrev HasVoted : (f : Enlistment → Enlistment) → Mild f → Type 0
+    HasVoted f mild = Voted tb ev log t p (changed f) (touched f mild) refl hs (noteOf tb ev)
 
     -- not the last vote
-    vote-more : (f : Enlistment → Enlistment) (mild : Mild f) → Has-voted f mild → Own tb ev log t (quietly (changed f) log)
+    vote-more : (f : Enlistment → Enlistment) (mild : Mild f) → HasVoted f mild → Own tb ev log t (quietly (changed f) log)
     vote-more f mild w = unlogged tb ev log t p (changed f) (touched f mild) refl (changed f) [] (addressed-nothing tb ev) refl (λ u d. refl)
         (λ h made l a. rw (view-before transaction.phaseOne voting-state, view-after f transaction.phaseOne voting-state)
         (vote-on refl (quiet t tb ev [] (only-nothing notCommitted) (only-nothing notAborted)) (w .calm) (w .preparing) (w .hopes) (w .prepares)))
 
-    vote-decides : (f : Enlistment → Enlistment) (mild : Mild f) → Has-voted f mild → Own tb ev log t (follow then.Decide p (changed f) log)
+    vote-decides : (f : Enlistment → Enlistment) (mild : Mild f) → HasVoted f mild → Own tb ev log t (follow then.Decide p (changed f) log)
     unfolding follow
     vote-decides f mild w = by-cases (Own tb ev log t) (any (isIn enlistment.preparing) (held p (changed f))) _ _
         (λ _. vote-more f mild w)
@@ -575,27 +575,27 @@ module _ (tb : Table) (log : List ℕ) (n : ℕ) (s : Sound tb) (full : length l
       soon : (eqb k enlistment.active || eqb k enlistment.zero || eqb k enlistment.preparing) ≡ true → Doomed t (viewOf t tb)
       soon q = by-either (λ w. by-either (λ v. early-doomed (inl (eqb-true k enlistment.active v))) (λ v. early-doomed (inr (eqb-true k enlistment.zero v))) (true-or (eqb k enlistment.active) (eqb k enlistment.zero) w)) (λ w. voting-doomed (inl (eqb-true k enlistment.preparing w))) (true-or (eqb k enlistment.active || eqb k enlistment.zero) (eqb k enlistment.preparing) q)
 
-  abbrev pub Reacts-to : Act → Type 0
-  Reacts-to a = Reacts a (reactionOf (me .kind) (me .state) a)
+  abbrev pub ReactsTo : Act → Type 0
+  ReactsTo a = Reacts a (reactionOf (me .kind) (me .state) a)
 
-  pub reacts-zero-done : Reacts-to (act.ZeroDone n)
+  pub reacts-zero-done : ReactsTo (act.ZeroDone n)
   unfolding reactionOf
   reacts-zero-done = by-cases (Reacts (act.ZeroDone n)) (eqb (me .state) enlistment.zero) _ _ (λ q. record { gives = λ _. own-zero-done (eqb-true (me .state) enlistment.zero q) }) (λ _. refuses (act.ZeroDone n))
 
-  pub reacts-vote : (v : Vote) → Reacts-to (act.Vote n v)
+  pub reacts-vote : (v : Vote) → ReactsTo (act.Vote n v)
   unfolding reactionOf
   reacts-vote v = by-cases (Reacts (act.Vote n v)) (eqb (me .state) enlistment.preparing) _ _ (λ q. record { gives = λ _. own-vote v (eqb-true (me .state) enlistment.preparing q) }) (λ _. refuses (act.Vote n v))
 
-  pub reacts-reply : (r : Reply) → Reacts-to (act.Reply n r)
+  pub reacts-reply : (r : Reply) → ReactsTo (act.Reply n r)
   unfolding reactionOf
   reacts-reply r = by-cases (Reacts (act.Reply n r)) (eqb (me .state) enlistment.onePhase) _ _ (λ q. record { gives = λ _. own-reply r (eqb-true (me .state) enlistment.onePhase q) }) (λ _. refuses (act.Reply n r))
 
-  pub reacts-ack : Reacts-to (act.Ack n)
+  pub reacts-ack : ReactsTo (act.Ack n)
   unfolding reactionOf
   reacts-ack = by-cases (Reacts (act.Ack n)) (eqb (me .state) enlistment.toldCommit || eqb (me .state) enlistment.toldAbort) _ _
       (λ q. record { gives = λ _. own-ack (by-either (λ w. inl (eqb-true (me .state) enlistment.toldCommit w)) (λ w. inr (eqb-true (me .state) enlistment.toldAbort w)) (true-or (eqb (me .state) enlistment.toldCommit) (eqb (me .state) enlistment.toldAbort) q)) })
       (λ _. refuses (act.Ack n))
 
-  pub reacts-to-lost : Reacts-to (act.Lost n)
+  pub reacts-to-lost : ReactsTo (act.Lost n)
   unfolding reactionOf
   reacts-to-lost = reacts-lost

@@ -36,7 +36,7 @@ of-replicate (suc n) a m = by-either (λ e. e) (λ i. of-replicate n a i) (List�
 -- ── where what is reopened stands ───────────────────────────────────────────────────────────────────────────────
 
 -- x is an entry of an open transaction, at the place of that
-record Stands-at (k : ℕ) (os : List Open) (zs : List Transaction) (x : Enlistment) : Type 0 where
+record StandsAt (k : ℕ) (os : List Open) (zs : List Transaction) (x : Enlistment) : Type 0 where
   o : Open
   q : ℕ
   d : Entry
@@ -46,19 +46,19 @@ record Stands-at (k : ℕ) (os : List Open) (zs : List Transaction) (x : Enlistm
   place : atFrom noTransaction k q (map reopened os ++ zs) ≡ reopened o
   low : k ≤ q
 
-of-reenlistments : (k : ℕ) (os : List Open) (zs : List Transaction) {x : Enlistment} → x ∈ reenlistments k os → Stands-at k os zs x
+of-reenlistments : (k : ℕ) (os : List Open) (zs : List Transaction) {x : Enlistment} → x ∈ reenlistments k os → StandsAt k os zs x
 unfolding reenlistments atFrom
 of-reenlistments k [] zs m = absurd (List·Memᴰ·not-nil m)
 of-reenlistments k (o ∷ os) zs {x} m = by-either (λ i. here (of-map (reenlistment k) (o .entries) i)) (λ i. there (of-reenlistments (suc k) os zs i)) (List·Memᴰ·append-cases (map (reenlistment k) (o .entries)) m)
   where
-    here : Some (λ d. reenlistment k d ≡ x) (o .entries) → Stands-at k (o ∷ os) zs x
+    here : Some (λ d. reenlistment k d ≡ x) (o .entries) → StandsAt k (o ∷ os) zs x
     here s = record { o = o; q = k; d = s .it; is = sym (s .holds); open-one = List·Memᴰ·head refl; entry = s .there; place = rw (eq-eqb k k refl) refl; low = omega arith }
 
-    there : Stands-at (suc k) os zs x → Stands-at k (o ∷ os) zs x
+    there : StandsAt (suc k) os zs x → StandsAt k (o ∷ os) zs x
     there s = record { o = s .o; q = s .q; d = s .d; is = s .is; open-one = List·Memᴰ·tail (s .open-one); entry = s .entry; place = rw (ne-eqb k (s .q) (λ e. omega (arith, e, s .low))) (s .place); low = omega (arith, s .low) }
 
 -- a live place is that of an open transaction, whose entries are enlisted there
-record Live-at (k p : ℕ) (os : List Open) (y : Transaction) : Type 0 where
+record LiveAt (k p : ℕ) (os : List Open) (y : Transaction) : Type 0 where
   o : Open
   open-one : o ∈ os
   is : y ≡ reopened o
@@ -70,7 +70,7 @@ unfolding atFrom
 empties k p zero = refl
 empties k p (suc m) = by-test (eqb k p) (λ e. rw e refl) (λ e. rw e (empties (suc k) p m))
 
-live-at : (k p : ℕ) (os : List Open) (m : ℕ) → Live (atFrom noTransaction k p (map reopened os ++ replicate m noTransaction)) → Live-at k p os (atFrom noTransaction k p (map reopened os ++ replicate m noTransaction))
+live-at : (k p : ℕ) (os : List Open) (m : ℕ) → Live (atFrom noTransaction k p (map reopened os ++ replicate m noTransaction)) → LiveAt k p os (atFrom noTransaction k p (map reopened os ++ replicate m noTransaction))
 unfolding atFrom reenlistments
 live-at k p [] m l = absurd (l (ap (λ (x : Transaction). x .state) (empties k p m)))
 live-at k p (o ∷ os) m l = by-test (eqb k p)
@@ -80,7 +80,7 @@ live-at k p (o ∷ os) m l = by-test (eqb k p)
     at-own : k ≡ p → (d : Entry) → d ∈ o .entries → reenlistment p d ∈ map (reenlistment k) (o .entries)
     at-own e d i = rw (← e) (in-map (reenlistment k) i)
 
-    there : Live-at (suc k) p os (atFrom noTransaction (suc k) p (map reopened os ++ replicate m noTransaction)) → Live-at k p (o ∷ os) (atFrom noTransaction (suc k) p (map reopened os ++ replicate m noTransaction))
+    there : LiveAt (suc k) p os (atFrom noTransaction (suc k) p (map reopened os ++ replicate m noTransaction)) → LiveAt k p (o ∷ os) (atFrom noTransaction (suc k) p (map reopened os ++ replicate m noTransaction))
     there s = record { o = s .o; open-one = List·Memᴰ·tail (s .open-one); is = s .is; entered = λ d i. Memᴰ·append-right (map (reenlistment k) (o .entries)) (s .entered d i); low = omega (arith, s .low) }
 
 few-open : (f : ℕ → Transaction → Bool) → ((q : ℕ) → f q noTransaction ≡ false) → (k : ℕ) (os : List Open) (m : ℕ) → length (placesFrom f k (map reopened os ++ replicate m noTransaction)) ≤ length os
@@ -106,7 +106,7 @@ numbers-apart k (o ∷ os) a = apart-both (map (reenlistment k) (o .entries)) (r
     (numbers-apart (suc k) os (apart-second (o .entries) (entriesOpen os) a))
     (λ x y m n r. go x y (of-map (reenlistment k) (o .entries) m) (of-reenlistments (suc k) os [] n) r)
   where
-    go : (x y : Enlistment) → Some (λ d. reenlistment k d ≡ x) (o .entries) → Stands-at (suc k) os [] y → x .number ≡ y .number → ⊥
+    go : (x y : Enlistment) → Some (λ d. reenlistment k d ≡ x) (o .entries) → StandsAt (suc k) os [] y → x .number ≡ y .number → ⊥
     go x y s w r = apart-cross (o .entries) (entriesOpen os) a (s .it) (w .d) (s .there) (in-entries os (w .open-one) (w .entry)) (ap (λ (e : Enlistment). e .number) (s .holds) ∙ r ∙ ap (λ (e : Enlistment). e .number) (w .is))
 
 managers-apart : (k : ℕ) (os : List Open) → Each (λ o. FitEntries (o .entries)) os → Apart SameManager (reenlistments k os)
@@ -121,7 +121,7 @@ managers-apart k (o ∷ os) f = apart-both (map (reenlistment k) (o .entries)) (
     as-managers [] a = nothing
     as-managers (e ∷ es) a = more (λ d m r. apart-head a d m (r .1)) (as-managers es (apart-rest a))
 
-    go : (x y : Enlistment) → Some (λ d. reenlistment k d ≡ x) (o .entries) → Stands-at (suc k) os [] y → SameManager x y → ⊥
+    go : (x y : Enlistment) → Some (λ d. reenlistment k d ≡ x) (o .entries) → StandsAt (suc k) os [] y → SameManager x y → ⊥
     go x y s w r = let q : k ≡ w .q = ap (λ (e : Enlistment). e .holder) (s .holds) ∙ r .0 ∙ ap (λ (e : Enlistment). e .holder) (w .is) in omega (arith, q, w .low)
 
 few-held : (p k : ℕ) (os : List Open) → Each (λ o. FitEntries (o .entries)) os → length (filter (heldBy p) (reenlistments k os)) ≤ heldMost
@@ -132,7 +132,7 @@ few-held p k (o ∷ os) f = rw (filter-append (heldBy p) (map (reenlistment k) (
     (omega (arith, length-filter (heldBy p) (map (reenlistment k) (o .entries)), length-map (o .entries) (reenlistment k), each-head f .few)))
     (λ e. rw (filter-none (heldBy p) (map (reenlistment k) (o .entries)) (λ x m. ne-eqb (x .holder) p (λ c. eqb-false k p e (ap (λ (w : Enlistment). w .holder) (of-map (reenlistment k) (o .entries) m .holds) ∙ c)))) (few-held p (suc k) os (each-rest f))))
   where
-    later : (x : Enlistment) → Stands-at (suc k) os [] x → x .holder ≡ k → ⊥
+    later : (x : Enlistment) → StandsAt (suc k) os [] x → x .holder ≡ k → ⊥
     later x w c = let q : w .q ≡ k = sym (ap (λ (e : Enlistment). e .holder) (w .is)) ∙ c in omega (arith, q, w .low)
 
 -- ── the table ───────────────────────────────────────────────────────────────────────────────────────────────────
@@ -157,28 +157,28 @@ module _ (capacity used : ℕ) (os : List Open) (k : Fit os) (header : headerSiz
       (λ i. inr (of-replicate (transactionPlaces - length os) noTransaction i))
       (List·Memᴰ·append-cases (map reopened os) m)
 
-  of-enlistments : (x : Enlistment) → x ∈ tb .enlistments → Stands-at 1 os zs x ⊎ (x ≡ noEnlistment)
+  of-enlistments : (x : Enlistment) → x ∈ tb .enlistments → StandsAt 1 os zs x ⊎ (x ≡ noEnlistment)
   unfolding tableOf
   of-enlistments x m = by-either (λ i. inl (of-reenlistments 1 os zs i)) (λ i. inr (of-replicate (enlistmentPlaces - length (reenlistments 1 os)) noEnlistment i)) (List·Memᴰ·append-cases es m)
 
   -- what is held is an entry
-  of-held-ones : (x : Enlistment) → x ∈ tb .enlistments → Held x → Stands-at 1 os zs x
+  of-held-ones : (x : Enlistment) → x ∈ tb .enlistments → Held x → StandsAt 1 os zs x
   of-held-ones x m h = by-either (λ w. w) (λ e. absurd (h (ap (λ (y : Enlistment). y .holder) e))) (of-enlistments x m)
 
-  found : (p : ℕ) → Live (transactionAt p tb) → Live-at 1 p os (transactionAt p tb)
+  found : (p : ℕ) → Live (transactionAt p tb) → LiveAt 1 p os (transactionAt p tb)
   unfolding tableOf
   found p l = live-at 1 p os (transactionPlaces - length os) l
 
   some-place : (p : ℕ) → Live (transactionAt p tb) → p ≡ 0 → ⊥
   some-place p l z = omega (arith, z, found p l .low)
 
-  held-is : (p : ℕ) → (p ≡ 0 → ⊥) → {x : Enlistment} → x ∈ held p tb → Stands-at 1 os zs x
+  held-is : (p : ℕ) → (p ≡ 0 → ⊥) → {x : Enlistment} → x ∈ held p tb → StandsAt 1 os zs x
   held-is p z {x} m = of-held-ones x (of-held p tb m .0) (λ e. z (sym (of-held p tb m .1) ∙ e))
 
-  kind-is : (x : Enlistment) → Stands-at 1 os zs x → Durable x
+  kind-is : (x : Enlistment) → StandsAt 1 os zs x → Durable x
   kind-is x w = ap (λ (y : Enlistment). y .kind) (w .is)
 
-  state-is : (x : Enlistment) → Stands-at 1 os zs x → In enlistment.failedToNotify x
+  state-is : (x : Enlistment) → StandsAt 1 os zs x → In enlistment.failedToNotify x
   state-is x w = ap (λ (y : Enlistment). y .state) (w .is)
 
   well : (p : ℕ) → Live (transactionAt p tb) → HoldsWell (stateAt p tb) (held p tb)
@@ -196,7 +196,7 @@ module _ (capacity used : ℕ) (os : List Open) (k : Fit os) (header : headerSiz
   held-ones : filter isHeld (tb .enlistments) ≡ es
   unfolding tableOf
   held-ones = filter-append isHeld es vs
-      ∙ ap (λ l. l ++ filter isHeld vs) (filter-all isHeld es (λ x m. let w : Stands-at 1 os zs x = of-reenlistments 1 os zs m in false-not (ne-eqb (x .holder) 0 (λ z. omega (arith, w .low, sym (ap (λ (y : Enlistment). y .holder) (w .is)) ∙ z)))))
+      ∙ ap (λ l. l ++ filter isHeld vs) (filter-all isHeld es (λ x m. let w : StandsAt 1 os zs x = of-reenlistments 1 os zs m in false-not (ne-eqb (x .holder) 0 (λ z. omega (arith, w .low, sym (ap (λ (y : Enlistment). y .holder) (w .is)) ∙ z)))))
       ∙ ap (λ l. es ++ l) (filter-none isHeld vs (λ x m. rw (of-replicate (enlistmentPlaces - length (reenlistments 1 os)) noEnlistment m) refl)) ∙ append-nil es
 
   live-ones : filter isLive (tb .transactions) ≡ map reopened os
@@ -220,17 +220,17 @@ module _ (capacity used : ℕ) (os : List Open) (k : Fit os) (header : headerSiz
   unfolding tableOf
   reopened-sound = record {
     states = well;
-    kinds = λ x m h. let w : Stands-at 1 os zs x = of-held-ones x m h in (inr (inr (kind-is x w)), omega (arith, ap (λ (y : Enlistment). y .mark) (w .is)));
+    kinds = λ x m h. let w : StandsAt 1 os zs x = of-held-ones x m h in (inr (inr (kind-is x w)), omega (arith, ap (λ (y : Enlistment). y .mark) (w .is)));
     transaction-identifiers = λ x m l. by-either
         (λ s. (ap (λ (y : Transaction). length (y .id .0)) (s .holds) ∙ k .id-sizes (s .it) (s .there), λ e. nonzero (s .it .id) (k .ids (s .it) (s .there)) (sym (ap (λ (y : Transaction). y .id .0) (s .holds)) ∙ e)))
         (λ e. absurd (l (ap (λ (y : Transaction). y .state) e))) (of-transactions x m);
-    manager-identifiers = λ x m h. let w : Stands-at 1 os zs x = of-held-ones x m h in
+    manager-identifiers = λ x m h. let w : StandsAt 1 os zs x = of-held-ones x m h in
         (ap (λ (y : Enlistment). length (y .rm .0)) (w .is) ∙ k .entries (w .o) (w .open-one) .valid (w .d) (w .entry) .rm-size, λ e. nonzero (w .d .rm) (k .entries (w .o) (w .open-one) .managers (w .d) (w .entry)) (sym (ap (λ (y : Enlistment). y .rm .0) (w .is)) ∙ e));
-    numbers = λ x m h. let w : Stands-at 1 os zs x = of-held-ones x m h in
+    numbers = λ x m h. let w : StandsAt 1 os zs x = of-held-ones x m h in
         (λ e. k .entries (w .o) (w .open-one) .numbers (w .d) (w .entry) (sym (ap (λ (y : Enlistment). y .number) (w .is)) ∙ e), rw (ap (λ (y : Enlistment). y .number) (w .is)) (k .entries (w .o) (w .open-one) .valid (w .d) (w .entry) .number-small));
     transactions-differ = rw live-ones (apart-map reopened os (k .ids-apart));
     numbers-differ = rw held-ones (numbers-apart 1 os (k .numbers-apart));
-    holders-live = λ x m h z. let w : Stands-at 1 os zs x = of-held-ones x m h in
+    holders-live = λ x m h z. let w : StandsAt 1 os zs x = of-held-ones x m h in
         absurd (omega (arith, sym (ap (λ (y : Transaction). y .state) (ap (λ q. atFrom noTransaction 1 q (map reopened os ++ zs)) (ap (λ (y : Enlistment). y .holder) (w .is)) ∙ w .place)) ∙ z));
     managers-differ = rw held-ones (apart-filter isDurable es (managers-apart 1 os (k .entries)));
     few = few;
