@@ -4,10 +4,11 @@ use mathlib.Core.Path.{_≡_, refl}
 use mathlib.Core.Logic.{inl, inr}
 use mathlib.Core.Bool.{Bool, false}
 use mathlib.Core.List.{List, [], _∷_, _++_, List·Memᴰ·head, List·Memᴰ·tail, List·Memᴰ·not-nil}
-use lib.ListN.{take, drop}
+use lib.ListN.{length, take, drop}
 use Rattle.lists.specs.Lists.{any}
 use Rattle.lists.specs.Members.{_∈_}
 use Rattle.lists.proofs.Tests.{no-clash, some-any}
+use Rattle.rules.specs.declared.Event.{Event}
 use Rattle.rules.specs.declared.Vote.the-variants as vote
 use Rattle.rules.specs.declared.Name.{Name}
 use Rattle.rules.specs.declared.Name.the-variants as name
@@ -18,8 +19,8 @@ use Rattle.rules.specs.Restart.{Restart, restartOf}
 use Rattle.rules.proofs.Identifiers.{same-refl}
 use Rattle.rules.proofs.Computing.{computing}
 use Rattle.safety.specs.World.{Note, Issued, World, told, messageOf, empty, afterStep, withDisk, afterLeaving, afterRestart}
-use Rattle.safety.specs.Host.{now}
-use Rattle.safety.specs.Run.{start, step, store, leave, restart}
+use Rattle.safety.specs.Host.{Makes, now}
+use Rattle.safety.specs.Run.{Run, start, step, store, leave, restart}
 use Rattle.safety.specs.Demand3.{Committed, Aborted, About, Safe}
 use Rattle.safety.specs.Premises.{Breaks, beginsAgain, asksAnyTime, handsAny, givesAny, losesBytes, sendsAtOnce, doesNotTrim}
 use Rattle.safety.specs.Words.{id, begin, enlist, commit, rollback, votes, ack, ask, spare}
@@ -43,8 +44,8 @@ unfolding computing told messageOf empty afterStep withDisk afterLeaving afterRe
 begun-twice = (
   _,
   leave (step (step (leave (store (step (step (restart start spare 0 (spare, refl, refl))
-      (begin 7) _ _ (refl, refl) tt) (commit 7) _ _ (refl, refl) tt) header (header, [], refl, refl))
-      committed (List·Memᴰ·head refl) ([], refl)) (begin 7) _ _ (refl, refl) tt) (rollback 7) _ _ (refl, refl) tt)
+      (begin 7) _ _ (refl, refl) (λ _. tt)) (commit 7) _ _ (refl, refl) (λ _. tt)) header (header, [], refl, refl))
+      committed (List·Memᴰ·head refl) ([], refl)) (begin 7) _ _ (refl, refl) (λ _. tt)) (rollback 7) _ _ (refl, refl) (λ _. tt))
       aborted (List·Memᴰ·head refl) ([], refl),
   both-sent _ (record { it = committed; there = List·Memᴰ·tail (List·Memᴰ·head refl); holds = (refl, inr (inl refl)) }) (record { it = aborted; there = List·Memᴰ·head refl; holds = (refl, inr (inl refl)) }),
 )
@@ -69,10 +70,10 @@ unfolding computing told messageOf empty afterStep withDisk afterLeaving afterRe
 asked-after = (
   _,
   leave (step (store (step (leave (store (step (step (step (step (restart start spare 0 (spare, refl, refl))
-      (begin 7) _ _ (refl, refl) (λ m. List·Memᴰ·not-nil m)) (enlist 7 1 21) _ _ (refl, refl) tt) (commit 7) _ _ (refl, refl) tt) (votes 1 vote.Prepared) _ _ (refl, refl) tt)
+      (begin 7) _ _ (refl, refl) (λ _ m. List·Memᴰ·not-nil m)) (enlist 7 1 21) _ _ (refl, refl) (λ _. tt)) (commit 7) _ _ (refl, refl) (λ _. tt)) (votes 1 vote.Prepared) _ _ (refl, refl) (λ _. tt))
       (header ++ record-of-7) (header ++ record-of-7, [], refl, refl)) commit-of-7 (List·Memᴰ·head refl) ([], refl))
-      (ack 1) _ _ (refl, refl) tt) (header ++ record-of-7 ++ forget-of-7) (forget-of-7, [], refl, refl))
-      (ask 7 21) _ _ (refl, refl) tt) aborted (List·Memᴰ·head refl) ([], refl),
+      (ack 1) _ _ (refl, refl) (λ _. tt)) (header ++ record-of-7 ++ forget-of-7) (forget-of-7, [], refl, refl))
+      (ask 7 21) _ _ (refl, refl) (λ _. tt)) aborted (List·Memᴰ·head refl) ([], refl),
   both-sent _ (record { it = commit-of-7; there = List·Memᴰ·tail (List·Memᴰ·head refl); holds = (refl, inl refl) }) (record { it = aborted; there = List·Memᴰ·head refl; holds = (refl, inr (inr refl)) }),
 )
   where
@@ -87,9 +88,9 @@ unfolding computing told messageOf empty afterStep withDisk afterLeaving afterRe
 sent-before = (
   _,
   leave (step (restart (leave (step (step (step (step (restart start spare 0 (spare, refl, refl))
-      (begin 7) _ _ (refl, refl) (λ m. List·Memᴰ·not-nil m)) (enlist 7 1 21) _ _ (refl, refl) tt) (commit 7) _ _ (refl, refl) tt) (votes 1 vote.Prepared) _ _ (refl, refl) tt)
+      (begin 7) _ _ (refl, refl) (λ _ m. List·Memᴰ·not-nil m)) (enlist 7 1 21) _ _ (refl, refl) (λ _. tt)) (commit 7) _ _ (refl, refl) (λ _. tt)) (votes 1 vote.Prepared) _ _ (refl, refl) (λ _. tt))
       commit-of-7 (List·Memᴰ·head refl) tt) spare 0 (spare, refl, refl))
-      (ask 7 21) _ _ (refl, refl) (now (1, refl))) aborted (List·Memᴰ·head refl) tt,
+      (ask 7 21) _ _ (refl, refl) (λ _. now (1, refl))) aborted (List·Memᴰ·head refl) tt,
   both-sent _ (record { it = commit-of-7; there = List·Memᴰ·tail (List·Memᴰ·head refl); holds = (refl, inl refl) }) (record { it = aborted; there = List·Memᴰ·head refl; holds = (refl, inr (inr refl)) }),
 )
   where
@@ -104,9 +105,9 @@ unfolding computing told messageOf empty afterStep withDisk afterLeaving afterRe
 bytes-lost = (
   _,
   leave (step (restart (store (leave (store (step (step (step (step (restart start spare 0 (spare, refl, refl))
-      (begin 7) _ _ (refl, refl) (λ m. List·Memᴰ·not-nil m)) (enlist 7 1 21) _ _ (refl, refl) tt) (commit 7) _ _ (refl, refl) tt) (votes 1 vote.Prepared) _ _ (refl, refl) tt)
+      (begin 7) _ _ (refl, refl) (λ _ m. List·Memᴰ·not-nil m)) (enlist 7 1 21) _ _ (refl, refl) (λ _. tt)) (commit 7) _ _ (refl, refl) (λ _. tt)) (votes 1 vote.Prepared) _ _ (refl, refl) (λ _. tt))
       (header ++ record-of-7) tt) commit-of-7 (List·Memᴰ·head refl) ([], refl)) header tt) (header ++ spare) 8 (spare, refl, refl))
-      (ask 7 21) _ _ (refl, refl) (now (1, refl))) aborted (List·Memᴰ·head refl) ([], refl),
+      (ask 7 21) _ _ (refl, refl) (λ _. now (1, refl))) aborted (List·Memᴰ·head refl) ([], refl),
   both-sent _ (record { it = commit-of-7; there = List·Memᴰ·tail (List·Memᴰ·head refl); holds = (refl, inl refl) }) (record { it = aborted; there = List·Memᴰ·head refl; holds = (refl, inr (inr refl)) }),
 )
   where
@@ -121,9 +122,9 @@ unfolding computing told messageOf empty afterStep withDisk afterLeaving afterRe
 part-given = (
   _,
   leave (step (restart (leave (store (step (step (step (step (restart start spare 0 tt)
-      (begin 7) _ _ (refl, refl) (λ m. List·Memᴰ·not-nil m)) (enlist 7 1 21) _ _ (refl, refl) tt) (commit 7) _ _ (refl, refl) tt) (votes 1 vote.Prepared) _ _ (refl, refl) tt)
+      (begin 7) _ _ (refl, refl) (λ _ m. List·Memᴰ·not-nil m)) (enlist 7 1 21) _ _ (refl, refl) (λ _. tt)) (commit 7) _ _ (refl, refl) (λ _. tt)) (votes 1 vote.Prepared) _ _ (refl, refl) (λ _. tt))
       (header ++ record-of-7) (header ++ record-of-7, [], refl, refl)) commit-of-7 (List·Memᴰ·head refl) ([], refl)) (header ++ spare) 8 tt)
-      (ask 7 21) _ _ (refl, refl) (now (1, refl))) aborted (List·Memᴰ·head refl) (record-of-7, refl),
+      (ask 7 21) _ _ (refl, refl) (λ _. now (1, refl))) aborted (List·Memᴰ·head refl) (record-of-7, refl),
   both-sent _ (record { it = commit-of-7; there = List·Memᴰ·tail (List·Memᴰ·head refl); holds = (refl, inl refl) }) (record { it = aborted; there = List·Memᴰ·head refl; holds = (refl, inr (inr refl)) }),
 )
   where
@@ -144,8 +145,8 @@ unfolding computing told messageOf empty afterStep withDisk afterLeaving afterRe
 earlier-handed = (
   _,
   leave (step (leave (store (step (step (restart start spare 0 (spare, refl, refl))
-      (begin 7) (first .table) (first .log) tt (λ m. List·Memᴰ·not-nil m)) (commit 7) (earlier .table) (earlier .log) tt tt) header (header, [], refl, refl))
-      committed (List·Memᴰ·head refl) ([], refl)) (rollback 7) (earlier .table) (earlier .log) tt tt)
+      (begin 7) (first .table) (first .log) tt (λ _ m. List·Memᴰ·not-nil m)) (commit 7) (earlier .table) (earlier .log) tt (λ _. tt)) header (header, [], refl, refl))
+      committed (List·Memᴰ·head refl) ([], refl)) (rollback 7) (earlier .table) (earlier .log) tt (λ _. tt))
       aborted (List·Memᴰ·head refl) ([], refl),
   both-sent _ (record { it = committed; there = List·Memᴰ·tail (List·Memᴰ·head refl); holds = (refl, inr (inl refl)) }) (record { it = aborted; there = List·Memᴰ·head refl; holds = (refl, inr (inl refl)) }),
 )
@@ -178,20 +179,24 @@ not-begun : (h : List Note) → any begins-7 h ≡ false → Note.begun (id 7) �
 unfolding begins-7
 not-begun h e m = no-clash (any begins-7 h) (some-any begins-7 h (record { it = Note.begun (id 7); there = m; holds = same-refl (id 7) })) e
 
+does : {w : World} → Run doesNotTrim w → (e : Event) → Makes doesNotTrim (w .notes) e → Run doesNotTrim (afterStep w (w .table) e (stepOf (w .table) e (w .log)))
+does {w} r e m = step r e (w .table) (w .log) (refl, refl) (λ _. m)
+
+restarts : {w : World} → Run doesNotTrim w → Run doesNotTrim (afterRestart w (restartOf (w .disk ++ spare) (length (w .disk))))
+restarts {w} r = restart r (w .disk ++ spare) (length (w .disk)) (spare, refl, refl)
+
 -- The record of 8 is torn behind its 20th byte. That of 7, which is stored behind it, makes it whole: a record of 8 with two entries.
 -- So 7 commits and 23 is told, but after the next restart nobody knows of 7, and 23 asks.
 pub not-trimmed : Breaks doesNotTrim
 unfolding computing told messageOf empty afterStep withDisk afterLeaving afterRestart record-of-8 large-of-7 begins-7
 not-trimmed = (
   _,
-  leave (step (restart (leave (store (step (step (step (step (restart (store (step (step (step (step (step (step (restart start spare 0 (spare, refl, refl))
-      (begin 8) _ _ (refl, refl) (λ m. List·Memᴰ·not-nil m)) (enlist 8 1 21) _ _ (refl, refl) tt) (enlist 8 2 22) _ _ (refl, refl) tt) (commit 8) _ _ (refl, refl) tt)
-      (votes 1 vote.Prepared) _ _ (refl, refl) tt) (votes 2 vote.Prepared) _ _ (refl, refl) tt)
-      (header ++ take 20 record-of-8) (header ++ take 20 record-of-8, drop 20 record-of-8, 0, refl, refl)) (header ++ take 20 record-of-8 ++ spare) 28 (spare, refl, refl))
-      (begin 7) _ _ (refl, refl) (not-begun _ refl)) (enlist 7 3000000000 23) _ _ (refl, refl) tt) (commit 7) _ _ (refl, refl) tt) (votes 3000000000 vote.Prepared) _ _ (refl, refl) tt)
-      (header ++ take 20 record-of-8 ++ large-of-7) (large-of-7, [], 8, refl, refl)) committed (List·Memᴰ·head refl) (header ++ take 20 record-of-8, [], refl))
-      (header ++ take 20 record-of-8 ++ large-of-7 ++ spare) 66 (spare, refl, refl))
-      (ask 7 23) _ _ (refl, refl) (now (3000000000, refl))) aborted (List·Memᴰ·head refl) (header, [], refl),
+  leave (does (restarts (leave (store (does (does (does (does (restarts (store (does (does (does (does (does (does (restarts start)
+      (begin 8) (λ m. List·Memᴰ·not-nil m)) (enlist 8 1 21) tt) (enlist 8 2 22) tt) (commit 8) tt) (votes 1 vote.Prepared) tt) (votes 2 vote.Prepared) tt)
+      (header ++ take 20 record-of-8) (header ++ take 20 record-of-8, drop 20 record-of-8, 0, refl, refl)))
+      (begin 7) (not-begun _ refl)) (enlist 7 3000000000 23) tt) (commit 7) tt) (votes 3000000000 vote.Prepared) tt)
+      (header ++ take 20 record-of-8 ++ large-of-7) (large-of-7, [], 8, refl, refl)) committed (List·Memᴰ·head refl) (header ++ take 20 record-of-8, [], refl)))
+      (ask 7 23) (now (3000000000, refl))) aborted (List·Memᴰ·head refl) (header, [], refl),
   both-sent _ (record { it = committed; there = List·Memᴰ·tail (List·Memᴰ·head refl); holds = (refl, inl refl) }) (record { it = aborted; there = List·Memᴰ·head refl; holds = (refl, inr (inr refl)) }),
 )
   where

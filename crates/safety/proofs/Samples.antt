@@ -22,7 +22,7 @@ use Rattle.safety.specs.Words.{id, begin, enlist, enlistSingle, commit, 
 -- ── the moves of the careful host ───────────────────────────────────────────────────────────────────────────────
 
 does : {w : World} → Run careful w → (e : Event) → Makes careful (w .notes) e → Run careful (afterStep w (w .table) e (stepOf (w .table) e (w .log)))
-does {w} r e m = step r e (w .table) (w .log) (refl, refl) m
+does {w} r e m = step r e (w .table) (w .log) (refl, refl) (λ _. m)
 
 -- so many of the bytes of the log are stored
 stores : {w : World} → Run careful w → (d rest : List ℕ) → (w .disk ++ d) ++ rest ≡ usedPart (w .table) (w .log) → Run careful (withDisk (w .disk ++ d) w)

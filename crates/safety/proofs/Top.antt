@@ -6,6 +6,7 @@ use mathlib.Core.Logic.{_⊎_, inl, inr}
 use mathlib.Core.Bool.{Bool, true, false, false≢true}
 use mathlib.Core.List.{List, [], _∷_, _++_, map, List·Memᴰ·not-nil, append-assoc, append-nil, nil≢cons}
 use lib.Dec.{eqb}
+use borrow.Author.Tests.{eqb-true}
 use lib.ListN.{length, take}
 use Rattle.lists.specs.Members.{_∈_, Some}
 use Rattle.rules.specs.declared.Table.{Table}
@@ -157,11 +158,11 @@ module _ (R : Refines) where
       move : (t : Id) → Move t (w .notes) (noteOf (w .table) e) (map (messageOf (w .table) e) (s .signals)) (storyOf t (usedPart (w .table) (w .log))) (storyOf t (usedPart (s .table) (s .log))) (viewOf t (w .table)) (viewOf t (s .table))
       move t = f .moves (w .notes) made t (agrees t (viewOf t (w .table)) (storyOf t (usedPart (w .table) (w .log))) (w .notes) (w .waiting) (w .sent) (w .issued) (a .shape t))
 
-  stepped : (w : World) (e : Event) → Makes careful (w .notes) e → Inv w → Inv (afterStep w (w .table) e (stepOf (w .table) e (w .log)))
+  stepped : (w : World) (e : Event) → (stepOf (w .table) e (w .log) .refusal ≡ 0 → Makes careful (w .notes) e) → Inv w → Inv (afterStep w (w .table) e (stepOf (w .table) e (w .log)))
   stepped w e made i = go (eqb (stepOf (w .table) e (w .log) .refusal) 0) refl i
     where
       go : (b : Bool) → eqb (stepOf (w .table) e (w .log) .refusal) 0 ≡ b → Inv w → Inv (afterStep w (w .table) e (stepOf (w .table) e (w .log)))
-      go true r (inl a) = inl (accepted-alive w e (stepOf (w .table) e (w .log)) r made (accepts (w .table) e (w .log) r (a .formed)) a)
+      go true r (inl a) = inl (accepted-alive w e (stepOf (w .table) e (w .log)) r (made (eqb-true (stepOf (w .table) e (w .log) .refusal) 0 r)) (accepts (w .table) e (w .log) r (a .formed)) a)
       go true r (inr d) = absurd (false≢true (sym (zero-unsound (w .table) (d .none-used)) ∙ needs-sound (w .table) e (w .log) r))
       go false r (inl a) = inl (refused-alive w e (stepOf (w .table) e (w .log)) r (refuses (w .table) e (w .log) r) a)
       go false r (inr d) = inr (refused-dead w e (stepOf (w .table) e (w .log)) r (refuses (w .table) e (w .log) r) d)
@@ -300,7 +301,7 @@ module _ (R : Refines) where
 
   pub inv : {w : World} → Run careful w → Inv w
   inv start = empty-inv
-  inv (step {w} r e tb log (p, q) made) = rw (p, q) (stepped w e made (inv r))
+  inv (step {w} r e tb log (p, q) made) = rw (p, q) (stepped w e (rw (p, q) at made) (inv r))
   inv (store {w} r disk m) = stored-inv w disk m (inv r)
   inv (trim {w} r disk m) = trimmed-inv w disk m (inv r)
   inv (leave {w} r i m (rest, p)) = left-inv w i m rest p (inv r)
