@@ -3,7 +3,7 @@ use Prim.Native.Nat.{ℕ}
 use native.Mathlib.Omega.{arith}
 use mathlib.Core.Path.{_≡_, refl, _∙_, ap}
 use mathlib.Core.Logic.{_⊎_}
-use mathlib.Core.List.{List}
+use mathlib.Core.List.{List, map}
 use Rattle.lists.specs.Members.{_∈_, Each, Some}
 use Rattle.rules.specs.declared.Enlistment.{Enlistment}
 use Rattle.rules.specs.declared.Name.{Name}
@@ -11,6 +11,7 @@ use Rattle.rules.specs.declared.Name.the-variants as name
 use Rattle.rules.specs.EnlistmentState as enlistment
 use Rattle.rules.specs.Identifiers.{Id}
 use Rattle.rules.specs.Sound.{In, Durable}
+use Rattle.rules.specs.Log.{Entry}
 use Rattle.safety.specs.World.{Note, Message, Issued}
 use Rattle.safety.specs.Host.{MayAsk}
 use Rattle.safety.specs.Demand3.{Committed, Aborted, About, Votes, VotedYes, AllVotedYes, OnlyOneCommitted}
@@ -19,8 +20,8 @@ use Rattle.safety.specs.Demand3.{Committed, Aborted, About, Votes, Voted
 
 pub data Story : Type 0 where
   none : Story
-  -- a commit record that names these resource managers, and no forget record
-  open-with : List Id → Story
+  -- a commit record with these entries, and no forget record
+  open-with : List Entry → Story
   closed : Story
   -- any other sequence of records
   bad : Story
@@ -46,12 +47,6 @@ below-refl none = tt
 below-refl (open-with rs) = refl
 below-refl closed = tt
 below-refl bad = tt
-
-pub below-bad : (s : Story) → Below s bad
-below-bad none = tt
-below-bad (open-with rs) = tt
-below-bad closed = tt
-below-bad bad = tt
 
 pub below-trans : (a b c : Story) → Below a b → Below b c → Below a c
 below-trans none b c p q = tt
@@ -161,6 +156,14 @@ Preparing n e = (e .number ≡ n) × In enlistment.preparing e
 abbrev pub NoDurable : List Enlistment → Type 0
 NoDurable es = Each (λ e. Durable e → ⊥) es
 
+-- the resource managers that a record names
+abbrev pub managersOf : List Entry → List Id
+managersOf rs = map (λ d. d .rm) rs
+
+-- the numbers of a record's entries are held
+abbrev pub Entered : List Entry → List Enlistment → Type 0
+Entered rs es = Each (λ d. Some (λ e. e .number ≡ d .number) es) rs
+
 -- ── one transaction ─────────────────────────────────────────────────────────────────────────────────────────────
 
 module _ (t : Id) where
@@ -175,7 +178,7 @@ module _ (t : Id) where
 
   abbrev pub AsksIn : Story → List Note → Type 0
   AsksIn none h = Unit {0}
-  AsksIn (open-with rs) h = (r : Id) → MayAsk t r h → r ∈ rs
+  AsksIn (open-with rs) h = (r : Id) → MayAsk t r h → r ∈ managersOf rs
   AsksIn closed h = NoAsk h
   AsksIn bad h = NoAsk h
 
@@ -211,7 +214,7 @@ module _ (t : Id) where
     pub no-aborted : Any Aborted waiting sent → ⊥
 
   pub record ShapeOut (log : Story) (h : List Note) (waiting sent : List Issued) : Type 0 where
-    pub not-open : (rs : List Id) → log ≡ open-with rs → ⊥
+    pub not-open : (rs : List Entry) → log ≡ open-with rs → ⊥
     pub no-ask : Any Committed waiting sent → NoAsk h
 
   pub record ShapeEarly (es : List Enlistment) (log : Story) (h : List Note) (waiting sent : List Issued) : Type 0 where
@@ -238,7 +241,7 @@ module _ (t : Id) where
     pub good : Good h issued
     pub wait : (r : Id) → MayAsk t r h → Some (Waits r) es
     -- with a durable place it is open, and without one nobody asks
-    pub record-or-none : ((rs : List Id) × (log ≡ open-with rs) × Some Durable es) ⊎ ((log ≡ none) × NoDurable es)
+    pub record-or-none : ((rs : List Entry) × (log ≡ open-with rs) × Some Durable es × Entered rs es) ⊎ ((log ≡ none) × NoDurable es)
 
   pub record ShapeAborting (log : Story) (h : List Note) (waiting sent : List Issued) : Type 0 where
     pub log-none : log ≡ none

@@ -47,6 +47,7 @@ use Rattle.safety.proofs.Top.{Agrees}
 use Rattle.safety.proofs.Story.{story}
 use Rattle.safety.proofs.View.{viewOf, look, view-stands, view-absent, view-same, view-goes, goes-other, view-changes, view-held-other, state-none}
 use Rattle.safety.proofs.Given.{stands-sound, owner-held}
+use Rattle.safety.proofs.Fitting.{judged-nothing}
 use Rattle.safety.proofs.Messages.{notCommitted, notAborted, Only, only-nothing, only-one, only-each, Addressed, Owned, addressed-nothing, addressed-one, addressed-neutral, none-committed, none-aborted, quiet}
 use Rattle.safety.proofs.Own.{by-cases, Own, unlogged, used-goes, own-abort, own-start}
 use Rattle.safety.proofs.Reactions.{nothing-calm, untouched}
@@ -130,6 +131,7 @@ module _ (tb : Table) (log : List ℕ) (s : Sound tb) (x : TxId) (y : RmId) wher
       bytes = rw used-begun nothing-written;
       other-story = λ u d k. refl;
       other-view = begun-other;
+      judged = judged-nothing tb log (begun .used) used-begun;
       addressed = addressed-nothing tb (event act.Begin);
       move = λ h made l a. rw (view-absent t tb absent, begun-view) (begin refl made refl (quiet t tb (event act.Begin) [] (only-nothing notCommitted) (only-nothing notAborted)));
     }
@@ -248,6 +250,7 @@ module _ (tb : Table) (log : List ℕ) (s : Sound tb) (x : TxId) (y : RmId) wher
         bytes = rw used-enlisted nothing-written;
         other-story = λ u d q. refl;
         other-view = enlisted-other;
+        judged = judged-nothing tb log (enlisted .used) used-enlisted;
         addressed = addressed-neutral tb ev ss (only-zero notCommitted refl) (only-zero notAborted refl);
         move = λ h made l a. rw (is-early st, enlisted-view) (gather refl not-prepared (quiet t tb ev ss (only-zero notCommitted refl) (only-zero notAborted refl)) (λ j w. enlisted-keeps (Unasked j) w) is-new);
       }
@@ -264,10 +267,13 @@ module _ (tb : Table) (log : List ℕ) (s : Sound tb) (x : TxId) (y : RmId) wher
       → ((h : List Note) → MayAsk t r h → (l : Story) → Agrees (viewOf t tb) l → Move t h Note.nothing (map (messageOf tb ask) ss) l l (viewOf t tb) (viewOf t tb))
       → Own tb ask log t (saying ss (quietly tb log))
   unfolding story told
-  only-answered ss ad mv = record { records = []; valid = each-nothing Valid; bytes = nothing-written; other-story = λ u d q. refl; other-view = λ u d. refl; addressed = ad; move = mv }
+  only-answered ss ad mv = record { records = []; valid = each-nothing Valid; bytes = nothing-written; other-story = λ u d q. refl; other-view = λ u d. refl; judged = judged-nothing tb log (tb .used) refl; addressed = ad; move = mv }
 
   again-kept : (e : Enlistment) → (toldAgain r e .holder ≡ e .holder) × (toldAgain r e .kind ≡ e .kind)
   again-kept e = by-cases (λ (w : Enlistment). (w .holder ≡ e .holder) × (w .kind ≡ e .kind)) (isUndone r e && isIn enlistment.failedToNotify e) (inState enlistment.toldCommit e) e (λ _. (refl, refl)) (λ _. (refl, refl))
+
+  again-number : (e : Enlistment) → toldAgain r e .number ≡ e .number
+  again-number e = by-cases (λ (w : Enlistment). w .number ≡ e .number) (isUndone r e && isIn enlistment.failedToNotify e) (inState enlistment.toldCommit e) e (λ _. refl) (λ _. refl)
 
   again-waits : (q : Id) (e : Enlistment) → Waits q e → Waits q (toldAgain r e)
   again-waits q e w = by-cases (Waits q) (isUndone r e && isIn enlistment.failedToNotify e) (inState enlistment.toldCommit e) e (λ _. (w .0, w .1, inl refl)) (λ _. w)
@@ -292,7 +298,8 @@ module _ (tb : Table) (log : List ℕ) (s : Sound tb) (x : TxId) (y : RmId) wher
       (told-on refl (nothing-calm t) (none-aborted t tb ask (signal name.AnswerCommitted answered ∷ []) (only-one notAborted name.AnswerCommitted answered refl))
       (λ q w. inl (held-own (Waits q) (Waits q) p (toldAgain r) tb (λ e _ v. (again-waits q e v, again-kept e .0)) w))
       (λ w. held-own Durable Durable p (toldAgain r) tb (λ e _ v. (again-kept e .1 ∙ v, again-kept e .0)) w)
-      (λ nd e m d. let c : Some (λ w. e ≡ toldAgain r w) hs = held-came p (toldAgain r) tb m in nd (c .it) (c .there) (sym (again-kept (c .it) .1) ∙ sym (ap (λ (w : Enlistment). w .kind) (c .holds)) ∙ d))))
+      (λ nd e m d. let c : Some (λ w. e ≡ toldAgain r w) hs = held-came p (toldAgain r) tb m in nd (c .it) (c .there) (sym (again-kept (c .it) .1) ∙ sym (ap (λ (w : Enlistment). w .kind) (c .holds)) ∙ d))
+      (λ n w. held-own (λ e. e .number ≡ n) (λ e. e .number ≡ n) p (toldAgain r) tb (λ e _ q. (again-number e ∙ q, again-kept e .0)) w)))
 
   ask-over : (stateAt p tb ≡ 0) ⊎ (stateAt p tb ≡ transaction.aborting) → Own tb ask log t (saying (signal name.AnswerAborted 0 ∷ []) (quietly tb log))
   ask-over w = only-answered (signal name.AnswerAborted 0 ∷ []) (addressed-one tb ask name.AnswerAborted 0 (inl refl)) (λ h may l a. by-either

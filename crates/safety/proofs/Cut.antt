@@ -8,16 +8,17 @@ use Rattle.lists.specs.Members.{_∈_, Some}
 use Rattle.rules.specs.declared.Enlistment.{Enlistment}
 use Rattle.rules.specs.declared.Name.{Name}
 use Rattle.rules.specs.Identifiers.{Id}
+use Rattle.rules.specs.Log.{Entry}
 use Rattle.rules.specs.Sound.{Durable}
 use Rattle.safety.specs.World.{Note, Message, Issued}
 use Rattle.safety.specs.Host.{MayAsk}
 use Rattle.safety.specs.Demand3.{Committed, Aborted}
-use Rattle.safety.proofs.Alone.{Story, none, open-with, closed, bad, Below, below-refl, Logged, logged-up, fine-down, View, out, early, voting, single, committing, aborting, Waits, NoAsk, AsksIn, Any, Base, Undecided, Shape}
+use Rattle.safety.proofs.Alone.{Story, none, open-with, closed, bad, Below, below-refl, Logged, logged-up, fine-down, View, out, early, voting, single, committing, aborting, Waits, managersOf, Entered, NoAsk, AsksIn, Any, Base, Undecided, Shape}
 
 -- What a restart makes of a story
 abbrev pub Restored : Story → View → Type 0
 Restored none v = v ≡ out
-Restored (open-with rs) v = (es : List Enlistment) × (v ≡ committing es) × ((r : Id) → r ∈ rs → Some (Waits r) es) × Some Durable es
+Restored (open-with rs) v = (es : List Enlistment) × (v ≡ committing es) × ((r : Id) → r ∈ managersOf rs → Some (Waits r) es) × Some Durable es × Entered rs es
 Restored closed v = v ≡ out
 Restored bad v = Unit {0}
 
@@ -131,10 +132,10 @@ module _ (t : Id) (S : List ℕ → Story) (l disk : Story) (h : List Note) (is 
       up : Logged disk → Logged l
       up = logged-up disk l (b .below)
 
-  none-not-open : {s : Story} → s ≡ none → (rs : List Id) → s ≡ open-with rs → ⊥
+  none-not-open : {s : Story} → s ≡ none → (rs : List Entry) → s ≡ open-with rs → ⊥
   none-not-open e rs p = let z : _≡_ {A = ℕ} 0 1 = cc in omega arith
 
-  closed-not-open : {s : Story} → s ≡ closed → (rs : List Id) → s ≡ open-with rs → ⊥
+  closed-not-open : {s : Story} → s ≡ closed → (rs : List Entry) → s ≡ open-with rs → ⊥
   closed-not-open e rs p = let z : _≡_ {A = ℕ} 0 1 = cc in omega arith
 
   pub shape-restart : B → (v : View) → Restored disk v → Shape t v disk h [] se is
@@ -146,15 +147,15 @@ module _ (t : Id) (S : List ℕ → Story) (l disk : Story) (h : List Note) (is 
 
       go : (d : Story) → disk ≡ d → Restored d v → Shape t v disk h [] se is
       go none e r = rw r (record { not-open = none-not-open e; no-ask = λ c. ⊎-elim (λ y. y) (λ g. absurd (rw e at g)) (sent-com c) })
-      go (open-with rs) e (es, ev, w, d) = rw ev (record {
+      go (open-with rs) e (es, ev, w, d, n) = rw ev (record {
         begun = b .begun-log (logged-up disk l (b .below) (rw e tt));
         no-aborted = λ a. b .kept (logged-up disk l (b .below) (rw e tt)) (only-sent Aborted a);
         good = b .good-log (logged-up disk l (b .below) (rw e tt));
         wait = λ r m. w r (asked-in r m);
-        record-or-none = inl (rs, e, d);
+        record-or-none = inl (rs, e, d, n);
       })
         where
-          asked-in : (r : Id) → MayAsk t r h → r ∈ rs
+          asked-in : (r : Id) → MayAsk t r h → r ∈ managersOf rs
           asked-in = rw e at (asks-down disk l (b .below) (b .asks))
       go closed e r = rw r (record { not-open = closed-not-open e; no-ask = λ c. rw e at (asks-down disk l (b .below) (b .asks)) })
       go bad e r = absurd (fine-down disk l (b .below) (b .fine) e)

@@ -3,31 +3,34 @@
 use Prim.Native.Nat.{ℕ, suc, _+_, _*_, _≤_, _<_}
 use native.Mathlib.Omega.{arith}
 use mathlib.Core.Path.{_≡_, refl, sym, _∙_, ap, ap₂}
-use mathlib.Core.Bool.{Bool, true, false, cond}
+use mathlib.Core.Bool.{Bool, cond, false, not, true}
 use mathlib.Core.List.{List, [], _∷_, _++_, append-assoc, append-nil, List·Memᴰ·head, List·Memᴰ·tail, List·Memᴰ·cases-cons, List·Memᴰ·not-nil}
 use lib.ListN.{length, take}
 use lib.Dec.{eqb}
 use borrow.Author.Tests.{eqb-true, eqb-false, ne-eqb}
-use Rattle.lists.specs.Members.{_∈_, Each}
+use Rattle.lists.specs.Members.{_∈_, Each, Some}
 use Rattle.lists.specs.Lists.{any, filter}
 use Rattle.lists.specs.Places.{placeOf, atFrom, at, changeFrom, placesFrom}
-use Rattle.lists.proofs.Tests.{by-test, by-either, no-clash, is-false, true-and, false-not, each-nothing, each-more}
+use Rattle.lists.proofs.Tests.{and-true, any-some, by-either, by-test, each-more, each-nothing, false-not, in-filter, is-false, no-clash, some-any, true-and}
 use Rattle.rules.specs.declared.Transaction.{Transaction}
 use Rattle.rules.specs.declared.Enlistment.{Enlistment}
 use Rattle.rules.specs.declared.Table.{Table}
 use Rattle.rules.specs.TransactionState as transaction
 use Rattle.rules.specs.Sizes.{identifierSize}
-use Rattle.rules.specs.Identifiers.{Id}
+use Rattle.rules.specs.Identifiers.{Id, isZero}
 use Rattle.rules.specs.Table.{noTransaction, isLive, isNamed, transactionAt, stateAt, idAt, heldBy, held, isDurable, freed, ended, changeHeld, changeTransaction, emptied, useMore}
 use Rattle.rules.specs.Sound.{isOpen, openPlaces, openCount}
 use Rattle.rules.specs.Log.{Record, recordBytes, allBytes, forgetSize}
+use Rattle.rules.specs.Restart.{Open, isOpenAs, afterRecord, openAfter, allFitting}
 use Rattle.rules.specs.Events.{Outcome, quietly, append, endOf, endEach}
-use Rattle.rules.proofs.Identifiers.{same-refl, other-not-same}
+use Rattle.rules.proofs.Identifiers.{same-refl, same-equal, other-not-same}
 use Rattle.rules.proofs.Records.{Valid, valid-forget}
 use Rattle.rules.proofs.Frames.{held-other, held-transaction, named-is, Stands, Absent, at-other, at-changed, absent-ended, unnamed-ended, written-used, length-written, not-zero, named-place}
 use Rattle.safety.proofs.Alone.{Story, View, out}
 use Rattle.safety.proofs.Story.{next, story, story-append, onForget, valid-both, bytes-append}
-use Rattle.safety.proofs.View.{viewOf, look, view-absent, ends-other, freed-keeps}
+use Rattle.safety.proofs.Open.{open-both, fitting-both}
+use Rattle.safety.proofs.Fitting.{forget-fit, one-forgotten}
+use Rattle.safety.proofs.View.{state-none, viewOf, look, view-absent, ends-other, freed-keeps}
 use Rattle.safety.proofs.Own.{by-cases}
 
 -- ── how many places pass ────────────────────────────────────────────────────────────────────────────────────────
@@ -87,10 +90,14 @@ more-open : (n : ℕ) (tb : Table) → openPlaces (useMore n tb) ≡ openPlaces 
 unfolding openPlaces useMore held
 more-open n tb = refl
 
-live-open : (s : ℕ) (hs : List Enlistment) → isOpen s hs ≡ true → s ≡ transaction.committing
+forget-size : (t : Id) → length t ≡ identifierSize → length (recordBytes (Record.forget t)) ≡ forgetSize
+unfolding recordBytes
+forget-size t e = rw e refl
+
+pub live-open : (s : ℕ) (hs : List Enlistment) → isOpen s hs ≡ true → s ≡ transaction.committing
 live-open s hs o = eqb-true s transaction.committing (true-and (eqb s transaction.committing) (any isDurable hs) o .0)
 
-open-live : (p : ℕ) (tb : Table) → isOpen (stateAt p tb) (held p tb) ≡ true → isLive (transactionAt p tb) ≡ true
+pub open-live : (p : ℕ) (tb : Table) → isOpen (stateAt p tb) (held p tb) ≡ true → isLive (transactionAt p tb) ≡ true
 open-live p tb o = false-not (ne-eqb (stateAt p tb) 0 (λ z. omega (arith, z, live-open (stateAt p tb) (held p tb) o)))
 
 module _ (p : ℕ) (tb : Table) (log : List ℕ) where
@@ -111,10 +118,6 @@ module _ (p : ℕ) (tb : Table) (log : List ℕ) where
   ends-elsewhere : (q : ℕ) → (q ≡ p → ⊥) → transactionAt q (o .table) ≡ transactionAt q tb
   unfolding changeHeld
   ends-elsewhere q d = ends-at q ∙ at-other p ended (changeHeld p freed tb) q d
-
-  pub ends-silent : o .signals ≡ []
-  unfolding endOf append
-  ends-silent = by-cases (λ (w : Outcome). w .signals ≡ []) (isOpen (stateAt p tb) (held p tb)) _ _ (λ _. refl) (λ _. refl)
 
   module _ (g : Roomy tb log) where
     ends-valid : Each Valid (forgetOf p tb)
@@ -268,3 +271,106 @@ each-own t p (q ∷ ps) tb log s m b = by-test (eqb p q)
     (λ e. let d : p ≡ q → ⊥ = eqb-false p q e in one-more t q ps tb log out onForget (λ s. s)
     (each-own t p ps (endOf q tb log .table) (endOf q tb log .log) (ends-stands q tb log t p s d) (by-either (λ c. absurd (d c)) (λ i. i) (List·Memᴰ·cases-cons m)) (ends-open q tb log p d (not-zero (named-place t p tb (s .here))) ∙ b))
     (λ k. ends-story q tb log t k (is-false (isNamed t (transactionAt q tb)) (λ n. d (sym (s .alone q n))))))
+
+-- ── forget records in a row fit ─────────────────────────────────────────────────────────────────────────────────
+
+-- those that are open in the table are open in the log, by identifiers that differ
+pub record Forgettable (tb : Table) (n : ℕ) (os : List Open) : Type 0 where
+  pub opened : (q : ℕ) → isOpen (stateAt q tb) (held q tb) ≡ true → (isZero (idAt q tb) ≡ false) × (any (isOpenAs (idAt q tb)) os ≡ true)
+  pub unlike : (q k : ℕ) → isLive (transactionAt q tb) ≡ true → isLive (transactionAt k tb) ≡ true → idAt q tb ≡ idAt k tb → q ≡ k
+  pub sizes : (q : ℕ) → isLive (transactionAt q tb) ≡ true → length (idAt q tb) ≡ identifierSize
+  pub space : tb .used + forgetSize * length os ≤ n
+
+module _ (p : ℕ) (tb : Table) (log : List ℕ) (n : ℕ) (os : List Open) (g : Forgettable tb n os) where
+  abbrev os′ : List Open
+  os′ = openAfter os (forgetOf p tb)
+
+  abbrev tb′ : Table
+  tb′ = endOf p tb log .table
+
+  end-fits : allFitting os (forgetOf p tb) ≡ true
+  unfolding forgetOf allFitting
+  end-fits = by-test (isOpen (stateAt p tb) (held p tb)) (λ b. rw (b, forget-fit (idAt p tb) os (g .opened p b .0) (g .opened p b .1)) refl) (λ b. rw b refl)
+
+  open-end : isOpen (stateAt p tb) (held p tb) ≡ true → endOf p tb log ≡ append (Record.forget (idAt p tb)) (emptied p tb) log
+  unfolding endOf
+  open-end b = rw b refl
+
+  closed-end : isOpen (stateAt p tb) (held p tb) ≡ false → endOf p tb log ≡ quietly (emptied p tb) log
+  unfolding endOf
+  closed-end b = rw b refl
+
+  open-used : isOpen (stateAt p tb) (held p tb) ≡ true → tb′ .used ≡ tb .used + length (recordBytes (Record.forget (idAt p tb)))
+  unfolding append useMore changeHeld changeTransaction
+  open-used b = ap (λ (o : Outcome). o .table .used) (open-end b)
+
+  closed-used : isOpen (stateAt p tb) (held p tb) ≡ false → tb′ .used ≡ tb .used
+  unfolding changeHeld changeTransaction
+  closed-used b = ap (λ (o : Outcome). o .table .used) (closed-end b)
+
+  open-forgets : isOpen (stateAt p tb) (held p tb) ≡ true → length os′ < length os
+  unfolding forgetOf openAfter afterRecord
+  open-forgets b = rw b (one-forgotten (idAt p tb) os (g .opened p b .1))
+
+  closed-keeps : isOpen (stateAt p tb) (held p tb) ≡ false → length os′ ≡ length os
+  unfolding forgetOf openAfter
+  closed-keeps b = rw b refl
+
+  end-space : tb′ .used + forgetSize * length os′ ≤ n
+  end-space = by-test (isOpen (stateAt p tb) (held p tb))
+      (λ b. omega (arith, open-used b, forget-size (idAt p tb) (g .sizes p (open-live p tb b)), g .space, open-forgets b))
+      (λ b. omega (arith, closed-used b, closed-keeps b, g .space))
+
+  gone : transactionAt p tb′ ≡ noTransaction
+  gone = ends-at p tb log p ∙ at-changed p ended (changeHeld p freed tb) (λ c. c) (λ c. c)
+
+  -- who is open afterwards was open, and is another
+  still-open : (q : ℕ) → isOpen (stateAt q tb′) (held q tb′) ≡ true → ((q ≡ p → ⊥) × (isOpen (stateAt q tb) (held q tb) ≡ true))
+  still-open q b = (other, sym (ends-open p tb log q other somewhere) ∙ b)
+    where
+      other : q ≡ p → ⊥
+      other e = omega (arith, live-open (stateAt q tb′) (held q tb′) b, ap (λ k. stateAt k tb′) e, ap (λ (x : Transaction). x .state) gone)
+
+      somewhere : q ≡ 0 → ⊥
+      somewhere e = omega (arith, live-open (stateAt q tb′) (held q tb′) b, ap (λ k. stateAt k tb′) e, state-none tb′)
+
+  keeps-open : (q : ℕ) → (q ≡ p → ⊥) → isOpen (stateAt q tb) (held q tb) ≡ true → any (isOpenAs (idAt q tb)) os′ ≡ true
+  unfolding forgetOf openAfter afterRecord
+  keeps-open q d b = by-test (isOpen (stateAt p tb) (held p tb)) (λ c. rw c (kept c)) (λ c. rw c (g .opened q b .1))
+    where
+      kept : isOpen (stateAt p tb) (held p tb) ≡ true → any (isOpenAs (idAt q tb)) (filter (λ o. not (isOpenAs (idAt p tb) o)) os) ≡ true
+      kept c = go (any-some (isOpenAs (idAt q tb)) os (g .opened q b .1))
+        where
+          go : Some (λ o. isOpenAs (idAt q tb) o ≡ true) os → any (isOpenAs (idAt q tb)) (filter (λ o. not (isOpenAs (idAt p tb) o)) os) ≡ true
+          go s = some-any (isOpenAs (idAt q tb)) (filter (λ o. not (isOpenAs (idAt p tb) o)) os) (record {
+            it = s .it;
+            holds = s .holds;
+            there = in-filter (λ o. not (isOpenAs (idAt p tb) o)) os (s .there) (false-not (is-false (isOpenAs (idAt p tb) (s .it)) (λ e.
+                d (g .unlike q p (open-live q tb b) (open-live p tb c) (sym (same-equal (s .it .id) (idAt q tb) (s .holds)) ∙ same-equal (s .it .id) (idAt p tb) e)))));
+          })
+
+  live-before : (q : ℕ) → isLive (transactionAt q tb′) ≡ true → (q ≡ p → ⊥)
+  live-before q l e = absurd (no-clash (isLive (transactionAt q tb′)) l (ap (λ k. isLive (transactionAt k tb′)) e ∙ ap isLive gone))
+
+  next-forgettable : Forgettable tb′ n os′
+  next-forgettable = record {
+    opened = λ q b. (
+      ap (λ (x : Transaction). isZero (x .id .0)) (ends-elsewhere p tb log q (still-open q b .0)) ∙ g .opened q (still-open q b .1) .0,
+      ap (λ (x : Transaction). any (isOpenAs (x .id .0)) os′) (ends-elsewhere p tb log q (still-open q b .0)) ∙ keeps-open q (still-open q b .0) (still-open q b .1),
+    );
+    unlike = λ q k a b e. g .unlike q k (ap isLive (sym (same q a)) ∙ a) (ap isLive (sym (same k b)) ∙ b) (ap (λ (x : Transaction). x .id .0) (sym (same q a)) ∙ e ∙ ap (λ (x : Transaction). x .id .0) (same k b));
+    sizes = λ q a. ap (λ (x : Transaction). length (x .id .0)) (same q a) ∙ g .sizes q (ap isLive (sym (same q a)) ∙ a);
+    space = end-space;
+  }
+    where
+      same : (q : ℕ) → isLive (transactionAt q tb′) ≡ true → transactionAt q tb′ ≡ transactionAt q tb
+      same q l = ends-elsewhere p tb log q (live-before q l)
+
+pub each-fits : (ps : List ℕ) (tb : Table) (log : List ℕ) (n : ℕ) (os : List Open) → Forgettable tb n os
+    → (allFitting os (forgets ps tb log) ≡ true) × (endEach ps tb log .table .used + forgetSize * length (openAfter os (forgets ps tb log)) ≤ n)
+unfolding endEach forgets allFitting openAfter
+each-fits [] tb log n os g = (refl, g .space)
+each-fits (p ∷ ps) tb log n os g = let r = each-fits ps (endOf p tb log .table) (endOf p tb log .log) n (openAfter os (forgetOf p tb)) (next-forgettable p tb log n os g) in (
+  fitting-both os (forgetOf p tb) (forgets ps (endOf p tb log .table) (endOf p tb log .log)) ∙ and-true (end-fits p tb log n os g) (r .0),
+  rw (open-both os (forgetOf p tb) (forgets ps (endOf p tb log .table) (endOf p tb log .log))) (r .1),
+)

@@ -28,10 +28,10 @@ use Rattle.safety.specs.World.{ownerOf}
 -- ── lists in which no two are alike ─────────────────────────────────────────────────────────────────────────────
 
 module _ {A : Type 0} {R : A → A → Type 0} where
-  apart-head : {x : A} {xs : List A} → Apart R (x ∷ xs) → Each (λ y. R x y → ⊥) xs
+  pub apart-head : {x : A} {xs : List A} → Apart R (x ∷ xs) → Each (λ y. R x y → ⊥) xs
   apart-head (more h a) = h
 
-  apart-rest : {x : A} {xs : List A} → Apart R (x ∷ xs) → Apart R xs
+  pub apart-rest : {x : A} {xs : List A} → Apart R (x ∷ xs) → Apart R xs
   apart-rest (more h a) = a
 
 module _ {A : Type 0} {R : A → A → Type 0} (flip : (x y : A) → R x y → R y x) where

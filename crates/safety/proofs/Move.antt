@@ -14,10 +14,11 @@ use Rattle.rules.specs.declared.Name.the-variants as name
 use Rattle.rules.specs.Identifiers.{Id}
 use Rattle.rules.specs.Kinds as kind
 use Rattle.rules.specs.Sound.{Durable}
+use Rattle.rules.specs.Log.{Entry}
 use Rattle.safety.specs.World.{Note, Message, Issued, issue}
 use Rattle.safety.specs.Host.{Prepares, Closes, MayAsk, now, still}
 use Rattle.safety.specs.Demand3.{Committed, Aborted, About, Votes, Yes, VotedYes, AllVotedYes}
-use Rattle.safety.proofs.Alone.{Story, none, open-with, closed, bad, Below, below-refl, below-trans, Logged, View, out, early, voting, single, committing, aborting, Hopes, Waits, Unasked, Preparing, NoDurable, Begun, NoAsk, Good, AsksIn, New, Any, Base, Undecided, Shape, ShapeVoting, ShapeCommitting}
+use Rattle.safety.proofs.Alone.{Story, none, open-with, closed, bad, Below, below-refl, below-trans, Logged, View, out, early, voting, single, committing, aborting, Hopes, Waits, Unasked, Preparing, NoDurable, managersOf, Entered, Begun, NoAsk, Good, AsksIn, New, Any, Base, Undecided, Shape, ShapeVoting, ShapeCommitting}
 
 module _ (t : Id) where
   -- the note tells n⊎-elim of a new enlistment nor of a prepared vote of t
@@ -73,10 +74,10 @@ module _ (t : Id) where
         → ((r : Id) → Some (Hopes r) es → Some (Hopes r) es′)
         → ((r : Id) → Prepares t r x → Some (Hopes r) es′)
         → Move h x ms l l′ (voting es) (voting es′)
-    decide-logged : {es es′ : List Enlistment} {rs : List Id} → l′ ≡ open-with rs → NotEnlisted x → (New t Aborted ms → ⊥)
+    decide-logged : {es es′ : List Enlistment} {rs : List Entry} → l′ ≡ open-with rs → NotEnlisted x → (New t Aborted ms → ⊥)
         → ((n : ℕ) → Some (Preparing n) es → VoteOf n x)
-        → ((r : Id) → Some (Hopes r) es ⊎ Prepares t r x → Some (Waits r) es′ × (r ∈ rs))
-        → Some Durable es′
+        → ((r : Id) → Some (Hopes r) es ⊎ Prepares t r x → Some (Waits r) es′ × (r ∈ managersOf rs))
+        → Some Durable es′ → Entered rs es′
         → Move h x ms l l′ (voting es) (committing es′)
     decide-unlogged : {es es′ : List Enlistment} → l′ ≡ l → NotEnlisted x → (New t Aborted ms → ⊥)
         → ((n : ℕ) → Some (Preparing n) es → VoteOf n x)
@@ -93,7 +94,7 @@ module _ (t : Id) where
     -- ack, lost, ask, re-enlisted after the decision to commit
     told-on : {es es′ : List Enlistment} → l′ ≡ l → Calm x → (New t Aborted ms → ⊥)
         → ((r : Id) → Some (Waits r) es → Some (Waits r) es′ ⊎ Closes t r x)
-        → (Some Durable es → Some Durable es′) → (NoDurable es → NoDurable es′)
+        → (Some Durable es → Some Durable es′) → (NoDurable es → NoDurable es′) → ((n : ℕ) → Some (λ e. e .number ≡ n) es → Some (λ e. e .number ≡ n) es′)
         → Move h x ms l l′ (committing es) (committing es′)
     end-logged : {es : List Enlistment} → l′ ≡ closed → Calm x → Quiet ms
         → ((r : Id) → Some (Waits r) es → Closes t r x)
@@ -163,10 +164,6 @@ module _ (t : Id) where
 
     abbrev pub Aborted′ : Type 0
     Aborted′ = Any t Aborted (issue im ms ++ wa) se
-
-    new-waits : NoAsk t (x ∷ h) ⊎ Logged l′ → (New t Committed ms → NoAsk t (x ∷ h) ⊎ Logged (S im))
-    new-waits (inl n) m = inl n
-    new-waits (inr g) m = inr (rw img g)
 
     -- a commit message among those that wait is new, or waited before
     waits-cases : (i : Issued) → i ∈ issue im ms ++ wa → i .message .about ≡ t → Committed (i .message .name)
@@ -353,13 +350,13 @@ module _ (t : Id) where
     below-closed closed f = tt
     below-closed bad f = f refl
 
-    open-fine : {rs : List Id} → open-with rs ≡ bad → ⊥
+    open-fine : {rs : List Entry} → open-with rs ≡ bad → ⊥
     open-fine p = let z : _≡_ {A = ℕ} 0 1 = cc in omega arith
 
     closed-fine : closed ≡ bad → ⊥
     closed-fine p = let z : _≡_ {A = ℕ} 0 1 = cc in omega arith
 
-    out-none : (s : Story) → AsksIn t s h → ((rs : List Id) → s ≡ open-with rs → ⊥) → (r : Id) → MayAsk t r h → s ≡ none
+    out-none : (s : Story) → AsksIn t s h → ((rs : List Entry) → s ≡ open-with rs → ⊥) → (r : Id) → MayAsk t r h → s ≡ none
     out-none none a f r m = refl
     out-none (open-with rs) a f r m = absurd (f rs refl)
     out-none closed a f r m = absurd (a r m)
@@ -384,7 +381,7 @@ module _ (t : Id) where
         make-first b (s .undecided) (rw e (b .fine)) (below-same e) (asks-none (e ∙ s .undecided .log-none))
         (inl (λ n r k i m. absurd (f n (s .held n r k (old (c .not-enlisted) i) m)))) na (inl (no-ask-calm (c .not-prepared) (s .no-ask)))
     keep-base b s (vote-on e q ne f g p) = make-undecided b (s .undecided) e q
-    keep-base b s (decide-logged e ne na f g d) =
+    keep-base b s (decide-logged e ne na f g d n) =
         make-first b (s .undecided) (rw e open-fine) (rw (s .undecided .log-none) tt) (rw e (λ r m. g r (hoping s r m) .1))
         (inl (last-vote s ne f)) na (inr (rw e tt))
     keep-base b s (decide-unlogged e ne na f g d) =
@@ -401,7 +398,7 @@ module _ (t : Id) where
       where
         is-it : s .number ≡ n₀
         is-it = sym (s .numbers (w .it) (w .there)) ∙ w .holds
-    keep-base b s (told-on e c na f g d) =
+    keep-base b s (told-on e c na f g d n) =
         make-calm b (s .begun) c (rw e (b .fine)) (below-same e) (rw e (asks-calm h l (c .not-prepared) (b .asks))) (inl (s .good)) (λ _ a. no-aborted′ na (s .no-aborted) a) (λ _. told-waits c s e)
     keep-base b s (end-logged e c q f) =
         make-calm b (s .begun) c (rw e closed-fine) (rw e (below-closed l (b .fine))) (rw e (close-all c (s .wait) f)) (inl (s .good)) (λ _ a. no-aborted′ (q .no-aborted) (s .no-aborted) a) (λ m. absurd (q .no-committed m))
@@ -426,31 +423,31 @@ module _ (t : Id) where
 
     told-shape : {es es′ : List Enlistment} → ShapeCommitting t es l h wa se is → l′ ≡ l → Calm x → (New t Aborted ms → ⊥)
         → ((r : Id) → Some (Waits r) es → Some (Waits r) es′ ⊎ Closes t r x)
-        → (Some Durable es → Some Durable es′) → (NoDurable es → NoDurable es′)
+        → (Some Durable es → Some Durable es′) → (NoDurable es → NoDurable es′) → ((n : ℕ) → Some (λ e. e .number ≡ n) es → Some (λ e. e .number ≡ n) es′)
         → Shape′ (committing es′)
-    told-shape s e c na f g d = record {
+    told-shape s e c na f g d k = record {
       begun = List·Memᴰ·tail (s .begun);
       no-aborted = no-aborted′ na (s .no-aborted);
       good = good-more ms (c .not-enlisted) (s .good);
       wait = λ r m. ⊎-elim (λ p. absurd (c .not-prepared r p)) (λ p. ⊎-elim (λ w. w) (λ cl. absurd (p .0 cl)) (f r (s .wait r (p .1)))) (may-ask m);
-      record-or-none = ⊎-elim (λ p. inl (p .0, e ∙ p .1, g (p .2))) (λ p. inr (e ∙ p .0, d (p .1))) (s .record-or-none);
+      record-or-none = ⊎-elim (λ p. inl (p .0, e ∙ p .1, g (p .2), λ y m. k (y .number) (p .3 y m))) (λ p. inr (e ∙ p .0, d (p .1))) (s .record-or-none);
     }
 
     gone-shape : {v : View} → Doom → l′ ≡ l → Gone v → (New t Committed ms → ⊥) → Shape′ v
     gone-shape z e g-out nc = record { not-open = λ rs p. absurd (not-none (sym (e ∙ z .log-none) ∙ p)); no-ask = λ c. absurd (no-committed′ nc (z .no-committed) c) }
       where
-        not-none : {rs : List Id} → none ≡ open-with rs → ⊥
+        not-none : {rs : List Entry} → none ≡ open-with rs → ⊥
         not-none p = let z : _≡_ {A = ℕ} 0 1 = cc in omega arith
     gone-shape z e g-aborting nc = record { log-none = e ∙ z .log-none; begun = List·Memᴰ·tail (z .begun); no-committed = no-committed′ nc (z .no-committed) }
 
     -- out with nobody to ask
-    out-shape : ((rs : List Id) → l′ ≡ open-with rs → ⊥) → NoAsk t (x ∷ h) → Shape′ out
+    out-shape : ((rs : List Entry) → l′ ≡ open-with rs → ⊥) → NoAsk t (x ∷ h) → Shape′ out
     out-shape f g = record { not-open = f; no-ask = λ _. g }
 
-    none-not-open : l′ ≡ none → (rs : List Id) → l′ ≡ open-with rs → ⊥
+    none-not-open : l′ ≡ none → (rs : List Entry) → l′ ≡ open-with rs → ⊥
     none-not-open e rs p = let z : _≡_ {A = ℕ} 0 1 = cc in omega arith
 
-    closed-not-open : l′ ≡ closed → (rs : List Id) → l′ ≡ open-with rs → ⊥
+    closed-not-open : l′ ≡ closed → (rs : List Entry) → l′ ≡ open-with rs → ⊥
     closed-not-open e rs p = let z : _≡_ {A = ℕ} 0 1 = cc in omega arith
 
     pub stay-shape : (v : View) → l′ ≡ l → Calm x → Quiet ms → Shape t v l h wa se is → Shape′ v
@@ -476,7 +473,7 @@ module _ (t : Id) where
       only = λ n r k i m. s .only n r k (old (c .not-enlisted) i) m;
       asked = Memᴰ·append-right ms (s .asked);
     }
-    stay-shape (committing es) e c q s = told-shape s e c (q .no-aborted) (λ r w. inl w) (λ w. w) (λ w. w)
+    stay-shape (committing es) e c q s = told-shape s e c (q .no-aborted) (λ r w. inl w) (λ w. w) (λ w. w) (λ n w. w)
     stay-shape aborting e c q s = record { log-none = e ∙ s .log-none; begun = List·Memᴰ·tail (s .begun); no-committed = no-committed′ (q .no-committed) (s .no-committed) }
 
     pub keep-shape : {v v′ : View} → Old → Shape t v l h wa se is → Move h x ms l l′ v v′ → Shape′ v′
@@ -521,12 +518,12 @@ module _ (t : Id) where
       held = λ n r k i m. ⊎-elim (λ v. inl (voted-more x v)) (λ w. ⊎-elim (λ v. inl (vote-of h v)) inr (f n w)) (s .held n r k (old ne i) m);
       hopes = λ r m. ⊎-elim (g r) (p r) (hoping s r m);
     }
-    keep-shape b s (decide-logged {rs = rs} e ne na f g d) = record {
+    keep-shape b s (decide-logged {rs = rs} e ne na f g d n) = record {
       begun = List·Memᴰ·tail (s .undecided .begun);
       no-aborted = no-aborted′ na (s .undecided .no-aborted);
       good = inl (last-vote s ne f);
       wait = λ r m. g r (hoping s r m) .0;
-      record-or-none = inl (rs, e, d);
+      record-or-none = inl (rs, e, d, n);
     }
     keep-shape b s (decide-unlogged e ne na f g d) = record {
       begun = List·Memᴰ·tail (s .undecided .begun);
@@ -538,7 +535,7 @@ module _ (t : Id) where
     keep-shape b s (decide-empty e ne na f g) = out-shape (none-not-open (e ∙ s .undecided .log-none)) (λ r m. g r (hoping s r m))
     keep-shape b s (abort e d g nc) = gone-shape (doom d s) e g nc
     keep-shape b s (replied e xe w na) = out-shape (none-not-open (e ∙ s .undecided .log-none)) (no-ask-calm (replied-calm xe .not-prepared) (s .no-ask))
-    keep-shape b s (told-on e c na f g d) = told-shape s e c na f g d
+    keep-shape b s (told-on e c na f g d n) = told-shape s e c na f g d n
     keep-shape b s (end-logged e c q f) = out-shape (closed-not-open e) (close-all c (s .wait) f)
     keep-shape b s (end-unlogged e c q d) = out-shape
         (λ rs p. ⊎-elim (λ o. d (o .2 .it) (o .2 .there) (o .2 .holds)) (λ o. none-not-open (e ∙ o .0) rs p) (s .record-or-none))

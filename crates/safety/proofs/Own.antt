@@ -9,11 +9,11 @@ use mathlib.Core.List.{List, [], _∷_, _++_, map, append-nil, List·Memᴰ·hea
 use lib.ListN.{length, take, length-append, length-map}
 use lib.Dec.{eqb}
 use borrow.Author.Tests.{eqb-true, eqb-false, eq-eqb, ne-eqb, ltb-false}
-use Rattle.lists.specs.Members.{_∈_, Each, Some}
+use Rattle.lists.specs.Members.{_∈_, Each, Some, Apart}
 use Rattle.lists.specs.Lists.{all, any, none, filter}
 use Rattle.lists.specs.Sorting.{insertBy, sortBy}
-use Rattle.lists.proofs.Tests.{by-test, by-either, no-clash, true-and, not-true, not-false, in-filter, of-filter, length-filter, in-map, all-each, any-some, none-each, each-nothing, each-more, each-head, each-rest, each-map}
-use Rattle.lists.proofs.Sorting.{in-sort, of-sort, length-sort}
+use Rattle.lists.proofs.Tests.{by-test, by-either, no-clash, true-and, not-true, not-false, in-filter, of-filter, length-filter, in-map, of-map, all-each, any-some, some-any, none-each, each-nothing, each-more, each-head, each-rest, each-map}
+use Rattle.lists.proofs.Sorting.{in-sort, of-sort, length-sort, sorted-sort, orders-by, orders-numbers}
 use Rattle.rules.specs.declared.Enlistment.{Enlistment}
 use Rattle.rules.specs.declared.Table.{Table}
 use Rattle.rules.specs.declared.Event.{Event}
@@ -22,25 +22,28 @@ use Rattle.rules.specs.declared.Name.the-variants as name
 use Rattle.rules.specs.Kinds as kind
 use Rattle.rules.specs.TransactionState as transaction
 use Rattle.rules.specs.EnlistmentState as enlistment
-use Rattle.rules.specs.Sizes.{identifierSize, largestNumber, heldMost, entrySize}
+use Rattle.rules.specs.Sizes.{identifierSize, largestNumber, heldMost, entrySize, recordSize}
 use Rattle.rules.specs.Identifiers.{Id, sameBytes}
 use Rattle.rules.specs.Table.{transactionAt, stateAt, idAt, held, isDurable, isMarked, isIn, isDone, inState, changeHeld, changeTransaction, goTo, emptied, useMore}
 use Rattle.rules.specs.Sound.{openCount, Durable}
 use Rattle.rules.specs.Log.{Entry, Record, low4, recordBytes, entryBytes, entriesBytes, allBytes, commitSize, forgetSize, written}
+use Rattle.rules.specs.Restart.{Open, isOpenAs, afterRecord, openAfter, allFitting}
 use Rattle.rules.specs.Signals.{byNumber, signal, toEach, toApp}
 use Rattle.rules.specs.Events.{Outcome, quietly, saying, append, endOf, endIfDone, hearsAbort, abortedOf, abortOf, entryOf, commitRecord, lacksRoom, committedOf, commitSignals, committing, endCommitted, decideOf, startPhaseOne}
-use Rattle.rules.proofs.Identifiers.{same-refl, other-not-same}
+use Rattle.rules.proofs.Identifiers.{same-refl, equal-same, other-not-same}
 use Rattle.rules.proofs.Records.{ValidEntry, Valid, valid-commit, valid-forget}
 use Rattle.rules.proofs.Frames.{Keeps, held-came, held-own, named-is, named-other, written-used, Stands, stands-goes, state-goes}
 use Rattle.safety.specs.World.{Note, noteOf, messageOf, subjectOf}
 use Rattle.safety.specs.Host.{Prepares, Closes, careful, Makes}
 use Rattle.safety.specs.Demand3.{Committed}
 use Rattle.safety.proofs.Alone as alone
-use Rattle.safety.proofs.Alone.{Story, closed, early, voting, aborting, Hopes, Waits, Unasked, Preparing, NoDurable, New}
+use Rattle.safety.proofs.Alone.{Story, closed, early, voting, aborting, Hopes, Waits, Unasked, Preparing, NoDurable, managersOf, Entered, New}
 use Rattle.safety.proofs.Move.{Calm, NotEnlisted, VoteOf, Doomed, d-voting, d-aborting, g-out, g-aborting, Move, prepare, ask-one, commit-empty, decide-logged, decide-unlogged, decide-empty, abort, told-on, end-logged, end-unlogged}
 use Rattle.safety.proofs.Top.{Agrees}
-use Rattle.safety.proofs.Story.{next, story, managersOf, onForget}
-use Rattle.safety.proofs.View.{viewOf, view-goes, goes-other, view-ends, ends-other, view-more, stands-held}
+use Rattle.safety.proofs.Story.{next, story, onForget, mine, Tells}
+use Rattle.safety.proofs.View.{viewOf, look, view-stands, view-goes, goes-other, view-ends, ends-other, view-more, stands-held}
+use Rattle.safety.proofs.Open.{FitCommit, fits-commit, apart-filter}
+use Rattle.safety.proofs.Fitting.{Ready, Judged, judged-nothing, mine-none, mine-some, open-shown, shown-open, open-count, commit-fit, apart-sort, live-nonzero, forget-fit, one-forgotten}
 use Rattle.safety.proofs.Messages.{notCommitted, notAborted, Only, only-nothing, only-one, only-each, only-both, Addressed, Owned, owned-about, addressed-nothing, addressed-one, addressed-each, addressed-both, none-committed, none-aborted, quiet}
 
 pub by-cases : {A : Type 0} (P : A → Type 0) (b : Bool) (x y : A) → (b ≡ true → P x) → (b ≡ false → P y) → P (cond b x y)
@@ -55,6 +58,7 @@ pub record Own (tb : Table) (e : Event) (log : List ℕ) (t : Id) (o : Outcome) 
   pub bytes : take (o .table .used) (o .log) ≡ take (tb .used) log ++ allBytes records
   pub other-story : (u : Id) → (u ≡ t → ⊥) → (s : Story) → story u s records ≡ s
   pub other-view : (u : Id) → (u ≡ t → ⊥) → viewOf u (o .table) ≡ viewOf u tb
+  pub judged : Judged tb log (o .table .used) records
   pub addressed : Addressed tb e (o .signals)
   pub move : (h : List Note) → Makes careful h e → (l : Story) → Agrees (viewOf t tb) l
       → Move t h (noteOf tb e) (map (messageOf tb e) (o .signals)) l (story t l records) (viewOf t tb) (viewOf t (o .table))
@@ -82,11 +86,16 @@ unlogged-end p tb log n = rw (ne-eqb (stateAt p tb) transaction.committing n) re
 pub record Touched (t : Id) (p : ℕ) (tb tb₁ : Table) : Type 0 where
   pub used : tb₁ .used ≡ tb .used
   pub capacity : tb₁ .capacity ≡ tb .capacity
+  pub before : Stands t p tb
   pub stands : Stands t p tb₁
   pub other-view : (u : Id) → (u ≡ t → ⊥) → viewOf u tb₁ ≡ viewOf u tb
   pub sized : Each (λ x. (length (x .rm .0) ≡ identifierSize) × (x .number ≤ largestNumber)) (held p tb₁)
   pub few : length (held p tb₁) ≤ heldMost
   pub owned : Each (λ x. Owned tb t (x .number)) (held p tb₁)
+  -- what is held was held, and no two are alike
+  pub came : Each (λ x. Some (λ y. (x .rm .0 ≡ y .rm .0) × (x .number ≡ y .number)) (held p tb)) (held p tb₁)
+  pub numbers-apart : Apart (λ x y. x .number ≡ y .number) (held p tb₁)
+  pub managers-apart : Apart (λ x y. x .rm .0 ≡ y .rm .0) (filter isDurable (held p tb₁))
 
 module _ (tb : Table) (e : Event) (log : List ℕ) (t : Id) (p : ℕ) (tb₁ : Table) (z : Touched t p tb tb₁) (about : subjectOf tb e ≡ t) where
   abbrev pub hs₁ : List Enlistment
@@ -115,6 +124,7 @@ module _ (tb : Table) (e : Event) (log : List ℕ) (t : Id) (p : ℕ) (tb₁ : T
     bytes = rw (us ∙ z .used) nothing-added;
     other-story = λ u d s. refl;
     other-view = λ u d. ov u d ∙ z .other-view u d;
+    judged = judged-nothing tb log (tb₂ .used) (us ∙ z .used);
     addressed = ad;
     move = mv;
   }
@@ -166,6 +176,11 @@ module _ (tb : Table) (e : Event) (log : List ℕ) (t : Id) (p : ℕ) (tb₁ : T
     pub preparing : (n : ℕ) → Some (Preparing n) hs → VoteOf t n x ⊎ Some (Preparing n) hs₁
     pub hopes : (r : Id) → Some (Hopes r) hs → Some (Hopes r) hs₁
     pub prepares : (r : Id) → Prepares t r x → Some (Hopes r) hs₁
+
+  committed-number : (x : Enlistment) → committedOf x .number ≡ x .number
+  unfolding committedOf
+  committed-number x = by-cases (λ (y : Enlistment). y .number ≡ x .number) (isIn enlistment.prepared x) _ _ (λ _. refl) (λ _.
+      by-cases (λ (y : Enlistment). y .number ≡ x .number) (isIn enlistment.preparedLost x) (inState enlistment.failedToNotify x) x (λ _. refl) (λ _. refl))
 
   committed-kept : (x : Enlistment) → (committedOf x .holder ≡ x .holder) × (committedOf x .kind ≡ x .kind)
   unfolding committedOf
@@ -235,7 +250,7 @@ module _ (tb : Table) (e : Event) (log : List ℕ) (t : Id) (p : ℕ) (tb₁ : T
         (λ r w. let y : Some (Hopes r) hs₁ = hoping r w in no-durable-of hs₁ nd (y .it) (y .there) (y .holds .0))
         (λ x m k. let c : Some (λ y. x ≡ committedOf y) hs₁ = held-came p committedOf tb₁ m in no-durable-of hs₁ nd (c .it) (c .there) (sym (committed-kept (c .it) .1) ∙ sym (ap (λ (y : Enlistment). y .kind) (c .holds)) ∙ k))))
 
-    module _ (d : any isDurable hs₁ ≡ true) (fits : tb₁ .used + commitSize (length (filter isDurable hs₁)) ≤ length log) where
+    module _ (d : any isDurable hs₁ ≡ true) (fits : tb₁ .used + commitSize (length (filter isDurable hs₁)) + forgetSize * (1 + openCount tb₁) ≤ length log) where
       ds : List Enlistment
       ds = sortBy byNumber (filter isDurable hs₁)
 
@@ -265,29 +280,67 @@ module _ (tb : Table) (e : Event) (log : List ℕ) (t : Id) (p : ℕ) (tb₁ : T
       unfolding entries ds
       listed q w = Memᴰ·cast (sym (w .holds .1)) (in-map (λ e. e .rm) (in-map entryOf (in-sort byNumber (filter isDurable hs₁) (in-filter isDurable hs₁ (w .there) (eq-eqb (w .it .kind) kind.durable (w .holds .0))))))
 
+      entered : Entered entries (held p (changeHeld p committedOf tb₁))
+      unfolding entries ds
+      entered d m = go (of-map entryOf ds m)
+        where
+          go : Some (λ x. entryOf x ≡ d) ds → Some (λ x. x .number ≡ d .number) (held p (changeHeld p committedOf tb₁))
+          go w = held-own (λ x. x .number ≡ d .number) (λ x. x .number ≡ d .number) p committedOf tb₁ (λ x _ q. (committed-number x ∙ q, committed-kept x .0))
+              (record { it = w .it; there = of-filter isDurable hs₁ (of-sort byNumber (filter isDurable hs₁) (w .there)) .0; holds = ap (λ (y : Entry). y .number) (w .holds) })
+
       size : length (recordBytes (Record.commit t entries)) ≡ commitSize (length (filter isDurable hs₁))
       unfolding recordBytes
       size = rw (length-append t (entriesBytes entries), id-size, entries-size entries entries-ok, as-many) (omega arith)
+
+      undecided : stateAt p tb ≡ transaction.committing → ⊥
+      undecided q = let c : look (stateAt p tb) (held p tb) ≡ voting hs = sym (view-stands t p tb (z .before)) ∙ isv in never (ap (λ k. look k (held p tb)) (sym q) ∙ c)
+        where
+          never : alone.committing (held p tb) ≡ voting hs → ⊥
+          never c = let z : _≡_ {A = ℕ} 0 1 = cc in omega arith
+
+      commit-judged : Judged tb log (committing p tb₁ .used + length (recordBytes (Record.commit t entries))) (Record.commit t entries ∷ [])
+      unfolding allFitting openAfter afterRecord entries ds
+      commit-judged = record { judged = λ os r. (rw (fits-commit os t entries (fit os r)) refl, room os r) }
+        where
+          closed-to : (os : List Open) → Ready tb log os → any (isOpenAs t) os ≡ false
+          closed-to os r = mine-none t os (go (r .storied t) (rw isv at (r .agrees t)) (r .tells t))
+            where
+              go : (s : Story) → s ≡ alone.none → Tells t s os → mine t os ≡ []
+              go s e h = rw e at h
+
+          fit : (os : List Open) → Ready tb log os → FitCommit os t entries
+          fit os r = commit-fit tb log os r t p (z .before) undecided (closed-to os r) ds (λ x m. z .came x (of-filter isDurable hs₁ (of-sort byNumber (filter isDurable hs₁) m) .0))
+              (sorted-sort (orders-by (λ (y : Enlistment). y .number) orders-numbers) (filter isDurable hs₁))
+              (apart-sort byNumber (λ x y r. sym r) (filter isDurable hs₁) (apart-filter isDurable hs₁ (z .numbers-apart)))
+              (apart-sort byNumber (λ x y r. sym r) (filter isDurable hs₁) (z .managers-apart))
+
+          known : (os : List Open) → Ready tb log os → length os ≤ openCount tb₁
+          known os r = open-count tb₁ os (r .fit .ids-apart) (λ o m. open-shown o tb₁ (rw (z .other-view (o .id) (λ q. no-clash (any (isOpenAs t) os) (some-any (isOpenAs t) os (record { it = o; there = m; holds = equal-same (o .id) t q })) (closed-to os r))) (shown-open tb log os r o m)))
+
+          room : (os : List Open) → Ready tb log os → committing p tb₁ .used + length (recordBytes (Record.commit t entries)) + recordSize * length (os ++ (record { id = t; entries = entries } ∷ [])) ≤ length log
+          room os r = rw (used-goes p transaction.committing committedOf tb₁, size, length-append os (record { id = t; entries = entries } ∷ [])) (omega (arith, fits, known os r))
 
       decide-durable : O (saying (commitSignals hs₁) (append (commitRecord (idAt p tb₁) hs₁) (committing p tb₁) log))
       unfolding append commitRecord useMore story next allBytes entries ds
       decide-durable = rw own-id (record {
         records = Record.commit t entries ∷ [];
         valid = each-more ok (each-nothing Valid);
-        bytes = ap (λ n. take (n + length bs) (written n bs log)) (used-goes p transaction.committing committedOf tb₁) ∙ written-used (tb₁ .used) bs log (rw size fits) ∙ ap₂ (λ n l. take n log ++ l) (z .used) (sym (append-nil bs));
+        bytes = ap (λ n. take (n + length bs) (written n bs log)) (used-goes p transaction.committing committedOf tb₁) ∙ written-used (tb₁ .used) bs log (omega (arith, size, fits)) ∙ ap₂ (λ n l. take n log ++ l) (z .used) (sym (append-nil bs));
         other-story = λ u n s. rw (not-same u n) refl;
         other-view = λ u n. view-more u (length bs) (committing p tb₁) ∙ goes-other t p tb₁ (z .stands) transaction.committing committedOf u keeps-committed n ∙ z .other-view u n;
+        judged = commit-judged;
         addressed = commit-home;
         move = λ h f l a. rw (isv, view-more t (length bs) (committing p tb₁) ∙ view-goes t p tb₁ (z .stands) transaction.committing committedOf (λ q. omega arith))
-            (decide-logged {rs = managersOf entries} (rw (same-refl t, rw isv at a) refl) (v .calm) (none-aborted t tb e (commitSignals hs₁) commit-not-aborted) all-voted
+            (decide-logged {rs = entries} (rw (same-refl t, rw isv at a) refl) (v .calm) (none-aborted t tb e (commitSignals hs₁) commit-not-aborted) all-voted
             (λ q w. (held-own (Hopes q) (Waits q) p committedOf tb₁ (λ x _ y. (commit-waits q x y, committed-kept x .0)) (hoping q w), listed q (hoping q w)))
-            (held-own Durable Durable p committedOf tb₁ (λ x _ k. (committed-kept x .1 ∙ k, committed-kept x .0)) durables));
+            (held-own Durable Durable p committedOf tb₁ (λ x _ k. (committed-kept x .1 ∙ k, committed-kept x .0)) durables)
+            entered);
       })
         where
           bs : List ℕ
           bs = recordBytes (Record.commit t entries)
 
-    roomy : length log ≡ tb₁ .capacity → (n : ℕ) → lacksRoom n tb₁ ≡ false → tb₁ .used ≤ tb₁ .capacity → tb₁ .used + commitSize n ≤ length log
+    roomy : length log ≡ tb₁ .capacity → (n : ℕ) → lacksRoom n tb₁ ≡ false → tb₁ .used ≤ tb₁ .capacity → tb₁ .used + commitSize n + forgetSize * (1 + openCount tb₁) ≤ length log
     unfolding lacksRoom
     roomy full n e low = rw full (omega (arith, ltb-false (tb₁ .capacity - tb₁ .used) (commitSize n + forgetSize * (1 + openCount tb₁)) e))
 
@@ -313,6 +366,7 @@ module _ (tb : Table) (e : Event) (log : List ℕ) (t : Id) (p : ℕ) (tb₁ : T
     pub waits : (r : Id) → Some (Waits r) hs → Some (Waits r) hs₁ ⊎ Closes t r x
     pub durable : Some Durable hs → Some Durable hs₁
     pub no-durable : NoDurable hs → NoDurable hs₁
+    pub numbers : (n : ℕ) → Some (λ y. y .number ≡ n) hs → Some (λ y. y .number ≡ n) hs₁
 
   module _ (hs : List Enlistment) (isv : viewOf t tb ≡ alone.committing hs) (st : stateAt p tb₁ ≡ transaction.committing) (w : Told hs (noteOf tb e)) (id-size : length t ≡ identifierSize) where
     not-done : (r : Id) (x : Enlistment) → Waits r x → x .state ≡ enlistment.done → ⊥
@@ -323,8 +377,19 @@ module _ (tb : Table) (e : Event) (log : List ℕ) (t : Id) (p : ℕ) (tb₁ : T
     closing dn r (inr c) = c
 
     closes : (l : Story) → Agrees (alone.committing hs) l → Some Durable hs₁ → onForget l ≡ closed
-    closes l (inl (rs, q, y)) d = rw q refl
+    closes l (inl (rs, q, y, n)) d = rw q refl
     closes l (inr (q, y)) d = absurd (w .no-durable y (d .it) (d .there) (d .holds))
+
+    forget-judged : {used : ℕ} → any isDurable hs₁ ≡ true → used ≡ tb .used + forgetSize → Judged tb log used (Record.forget t ∷ [])
+    unfolding allFitting openAfter afterRecord
+    forget-judged {used} d e = record { judged = λ os r. (rw (forget-fit t os (live-nonzero tb (r .sound) t p (z .before)) (opened os r)) refl, omega (arith, e, r .room, one-forgotten t os (opened os r))) }
+      where
+        opened : (os : List Open) → Ready tb log os → any (isOpenAs t) os ≡ true
+        opened os r = go (r .storied t) (rw isv at (r .agrees t)) (r .tells t)
+          where
+            go : (s : Story) → Agrees (alone.committing hs) s → Tells t s os → any (isOpenAs t) os ≡ true
+            go s (inl (rs, q, y, n)) h = let k : Tells t (alone.open-with rs) os = rw q at h in mine-some t os (k .0) (k .1)
+            go s (inr (q, y)) h = absurd (w .no-durable y (some-durable-of hs₁ d .it) (some-durable-of hs₁ d .there) (some-durable-of hs₁ d .holds))
 
     end-durable : any isDurable hs₁ ≡ true → all isDone hs₁ ≡ true → tb₁ .used + forgetSize ≤ length log → O (append (Record.forget (idAt p tb₁)) (emptied p tb₁) log)
     unfolding append useMore story next allBytes recordBytes
@@ -334,6 +399,7 @@ module _ (tb : Table) (e : Event) (log : List ℕ) (t : Id) (p : ℕ) (tb₁ : T
       bytes = ap (λ n. take (n + length bs) (written n bs log)) (used-emptied p tb₁) ∙ written-used (tb₁ .used) bs log (omega (arith, fits, size)) ∙ ap₂ (λ n l. take n log ++ l) (z .used) (sym (append-nil bs));
       other-story = λ u n s. rw (not-same u n) refl;
       other-view = λ u n. view-more u (length bs) (emptied p tb₁) ∙ ends-for t p tb₁ (z .stands) u n ∙ z .other-view u n;
+      judged = forget-judged d (ap (λ n. n + length bs) (used-emptied p tb₁ ∙ z .used) ∙ ap (λ n. tb .used + n) size);
       addressed = addressed-nothing tb e;
       move = λ h f l a. rw (same-refl t, isv, view-more t (length bs) (emptied p tb₁) ∙ view-ends t p tb₁ (z .stands))
           (end-logged (closes l (rw isv at a) (some-durable-of hs₁ d)) (w .calm) (quiet t tb e [] (only-nothing notCommitted) (only-nothing notAborted)) (λ r y. closing dn r (w .waits r y)));
@@ -352,7 +418,7 @@ module _ (tb : Table) (e : Event) (log : List ℕ) (t : Id) (p : ℕ) (tb₁ : T
 
     end-waits : viewOf t tb₁ ≡ alone.committing hs₁ → O (quietly tb₁ log)
     end-waits isv₁ = unlogged tb₁ [] (addressed-nothing tb e) refl (λ u n. refl)
-        (λ h f l a. rw (isv, isv₁) (told-on refl (w .calm) (none-aborted t tb e [] (only-nothing notAborted)) (w .waits) (w .durable) (w .no-durable)))
+        (λ h f l a. rw (isv, isv₁) (told-on refl (w .calm) (none-aborted t tb e [] (only-nothing notAborted)) (w .waits) (w .durable) (w .no-durable) (w .numbers)))
 
     pub own-end-committing : viewOf t tb₁ ≡ alone.committing hs₁ → (any isDurable hs₁ ≡ true → tb₁ .used + forgetSize ≤ length log) → O (endIfDone p tb₁ log)
     unfolding endIfDone endOf

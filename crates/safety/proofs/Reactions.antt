@@ -4,14 +4,14 @@ use native.Mathlib.Omega.{arith}
 use native.Mathlib.Decide.{ℕ-discrete}
 use mathlib.Core.Path.{_≡_, refl, sym, _∙_, ap, subst}
 use mathlib.Core.Logic.{_⊎_, inl, inr}
-use mathlib.Core.Bool.{true, false, _||_, true≢false}
+use mathlib.Core.Bool.{true, false, _||_, true≢false, _&&_}
 use mathlib.Core.List.{List, [], _∷_, map, List·Memᴰ·not-nil}
 use lib.ListN.{length}
 use lib.Dec.{eqb}
 use borrow.Author.Tests.{eqb-true, eqb-false, eq-eqb, ne-eqb}
-use Rattle.lists.specs.Members.{_∈_, Some}
-use Rattle.lists.specs.Lists.{any}
-use Rattle.lists.proofs.Tests.{by-either, true-or, not-true, any-some, some-any}
+use Rattle.lists.specs.Members.{_∈_, Some, Apart}
+use Rattle.lists.specs.Lists.{any, filter}
+use Rattle.lists.proofs.Tests.{by-test, by-either, no-clash, and-true, true-and, true-or, not-true, false-not, any-some, some-any, filter-filter}
 use Rattle.lists.proofs.Places.{in-places}
 use Rattle.rules.specs.declared.Enlistment.{Enlistment}
 use Rattle.rules.specs.declared.Table.{Table}
@@ -34,7 +34,7 @@ use Rattle.rules.specs.TransactionState as transaction
 use Rattle.rules.specs.EnlistmentState as enlistment
 use Rattle.rules.specs.Sizes.{identifierSize, largestNumber}
 use Rattle.rules.specs.Identifiers.{Id}
-use Rattle.rules.specs.Table.{noTransaction, transactionAt, stateAt, held, numbered, isNumbered, isPhaseZero, durableKind, isDurable, isIn, inState, freed, onNumber, changeHeld, changeNumber, emptied}
+use Rattle.rules.specs.Table.{isHeld, heldBy, onHeld, noTransaction, transactionAt, stateAt, held, numbered, isNumbered, isPhaseZero, durableKind, isDurable, isIn, inState, freed, onNumber, changeHeld, changeNumber, emptied}
 use Rattle.rules.specs.Sound.{Sound, In, Durable, PhaseZero, isOpen, openPlaces}
 use Rattle.rules.specs.Log.{forgetSize}
 use Rattle.rules.specs.Signals.{toApp}
@@ -50,6 +50,7 @@ use Rattle.safety.proofs.Move.{Calm, NotEnlisted, VoteOf, Doomed, d-ear
 use Rattle.safety.proofs.Top.{Agrees}
 use Rattle.safety.proofs.View.{viewOf, look, view-stands, view-changes, view-held-other, view-ends, state-held, stands-held}
 use Rattle.safety.proofs.Given.{id-size, owner-held, Row, in-active, in-zero, in-voting, in-single, in-commit, in-abort, Named}
+use Rattle.safety.proofs.Open.{apart-narrower, apart-changed}
 use Rattle.safety.proofs.Messages.{notCommitted, notAborted, only-nothing, only-one, Owned, addressed-nothing, addressed-one, none-committed, none-aborted, quiet}
 use Rattle.safety.proofs.Own.{by-cases, Own, Touched, unlogged, unlogged-end, used-emptied, ends-for, own-abort, Voted, own-decide, own-end-aborting, own-end-committing, own-start}
 
@@ -134,6 +135,20 @@ module _ (tb : Table) (s : Sound tb) (t : Id) (p : ℕ) (at : Stands t p tb) whe
   pub own-id-size : length t ≡ identifierSize
   own-id-size = ap length (sym (named-is t (transactionAt p tb) (at .here) .1)) ∙ id-size tb s p (named-is t (transactionAt p tb) (at .here) .0)
 
+  is-held : (x : Enlistment) → heldBy p x ≡ true → isHeld x ≡ true
+  is-held x h = false-not (ne-eqb (x .holder) 0 (λ z. not-zero (named-place t p tb (at .here)) (sym (eqb-true (x .holder) p h) ∙ z)))
+
+  numbers-apart : Apart (λ x y. x .number ≡ y .number) (held p tb)
+  unfolding held
+  numbers-apart = apart-narrower isHeld (heldBy p) is-held (λ x y a b r. r) (tb .enlistments) (s .numbers-differ)
+
+  managers-apart : Apart (λ x y. x .rm .0 ≡ y .rm .0) (filter isDurable (held p tb))
+  unfolding held
+  managers-apart = rw (filter-filter isDurable (heldBy p) (tb .enlistments)) (apart-narrower (λ x. isHeld x && isDurable x) (λ x. heldBy p x && isDurable x)
+      (λ x h. and-true (is-held x (true-and (heldBy p x) (isDurable x) h .0)) (true-and (heldBy p x) (isDurable x) h .1))
+      (λ x y a b r. (eqb-true (x .holder) p (true-and (heldBy p x) (isDurable x) a .0) ∙ sym (eqb-true (y .holder) p (true-and (heldBy p y) (isDurable y) b .0)), r))
+      (tb .enlistments) (rw (filter-filter isDurable isHeld (tb .enlistments)) at (s .managers-differ)))
+
   pub untouched : Touched t p tb tb
   untouched = record {
     used = refl;
@@ -143,6 +158,10 @@ module _ (tb : Table) (s : Sound tb) (t : Id) (p : ℕ) (at : Stands t p tb) whe
     sized = λ x m. held-sized m;
     few = s .few p live;
     owned = λ x m. inr (owner-held tb s t p at m .1);
+    before = at;
+    came = λ x m. record { it = x; there = m; holds = (refl, refl) };
+    numbers-apart = numbers-apart;
+    managers-apart = managers-apart;
   }
 
   pub low : tb .used ≤ tb .capacity
@@ -164,10 +183,10 @@ module _ (tb : Table) (s : Sound tb) (t : Id) (p : ℕ) (at : Stands t p tb) whe
 
 -- a change keeps what an enlistment is, or empties the place
 abbrev Mild : (Enlistment → Enlistment) → Type 0
-Mild f = (x : Enlistment) → ((f x .holder ≡ x .holder) × (f x .rm ≡ x .rm) × (f x .number ≡ x .number)) ⊎ (f x .holder ≡ 0)
+Mild f = (x : Enlistment) → ((f x .holder ≡ x .holder) × (f x .rm ≡ x .rm) × (f x .number ≡ x .number) × (f x .kind ≡ x .kind)) ⊎ (f x .holder ≡ 0)
 
 state-mild : (k : ℕ) → Mild (inState k)
-state-mild k x = inl (refl, refl, refl)
+state-mild k x = inl (refl, refl, refl, refl)
 
 freed-mild : Mild freed
 freed-mild x = inr refl
@@ -192,7 +211,7 @@ module _ (tb : Table) (log : List ℕ) (n : ℕ) (s : Sound tb) (full : length l
   changed f = changeNumber p n f tb
 
   mild-on : (f : Enlistment → Enlistment) → Mild f → Mild (onNumber n f)
-  mild-on f mild e = by-cases (λ (w : Enlistment). ((w .holder ≡ e .holder) × (w .rm ≡ e .rm) × (w .number ≡ e .number)) ⊎ (w .holder ≡ 0)) (isNumbered n e) (f e) e (λ _. mild e) (λ _. inl (refl, refl, refl))
+  mild-on f mild e = by-cases (λ (w : Enlistment). ((w .holder ≡ e .holder) × (w .rm ≡ e .rm) × (w .number ≡ e .number) × (w .kind ≡ e .kind)) ⊎ (w .holder ≡ 0)) (isNumbered n e) (f e) e (λ _. mild e) (λ _. inl (refl, refl, refl, refl))
 
   -- what is held came from what was held, with its own number
   was : (f : Enlistment → Enlistment) → Mild f → {w : Enlistment} → w ∈ held p (changed f) → Some (λ e. (w .rm ≡ e .rm) × (w .number ≡ e .number)) hs
@@ -204,6 +223,36 @@ module _ (tb : Table) (log : List ℕ) (n : ℕ) (s : Sound tb) (full : length l
       c : Some (λ e. w ≡ onNumber n f e) hs
       c = held-came p (onNumber n f) tb m
 
+  -- what it holds afterwards it held, as the same
+  kept-here : (f : Enlistment → Enlistment) → Mild f → (e : Enlistment) → heldBy p (onHeld p (onNumber n f) e) ≡ true
+      → (e .holder ≡ p) × (onHeld p (onNumber n f) e .rm ≡ e .rm) × (onHeld p (onNumber n f) e .number ≡ e .number) × (onHeld p (onNumber n f) e .kind ≡ e .kind)
+  kept-here f mild e h = by-test (heldBy p e)
+      (λ b. by-either
+      (λ q. rw b (eqb-true (e .holder) p b, q .1, q .2, q .3))
+      (λ q. absurd (not-zero (named-place t p tb (nm .stands .here)) (sym (eqb-true (onNumber n f e .holder) p (rw b at h)) ∙ q)))
+      (mild-on f mild e))
+      (λ b. no-clash (heldBy p e) (rw b at h) b)
+
+  numbers-apart-after : (f : Enlistment → Enlistment) → Mild f → Apart (λ a b. a .number ≡ b .number) (held p (changed f))
+  unfolding held changeHeld
+  numbers-apart-after f mild = apart-changed isHeld (heldBy p) (onHeld p (onNumber n f))
+      (λ e h. is-held tb s t p (nm .stands) e (eq-eqb (e .holder) p (kept-here f mild e h .0)))
+      (λ a b h k r. sym (kept-here f mild a h .2) ∙ r ∙ kept-here f mild b k .2)
+      (tb .enlistments) (s .numbers-differ)
+
+  managers-apart-after : (f : Enlistment → Enlistment) → Mild f → Apart (λ a b. a .rm .0 ≡ b .rm .0) (filter isDurable (held p (changed f)))
+  unfolding held changeHeld
+  managers-apart-after f mild = rw (filter-filter isDurable (heldBy p) (map g (tb .enlistments))) (apart-changed (λ e. isHeld e && isDurable e) (λ e. heldBy p e && isDurable e) g
+      (λ e h. and-true (is-held tb s t p (nm .stands) e (eq-eqb (e .holder) p (k e h .0))) (ap (λ k. eqb k kind.durable) (sym (k e h .3)) ∙ true-and (heldBy p (g e)) (isDurable (g e)) h .1))
+      (λ a b h i r. (k a h .0 ∙ sym (k b i .0), sym (ap (λ (r : RmId). r .0) (k a h .1)) ∙ r ∙ ap (λ (r : RmId). r .0) (k b i .1)))
+      (tb .enlistments) (rw (filter-filter isDurable isHeld (tb .enlistments)) at (s .managers-differ)))
+    where
+      g : Enlistment → Enlistment
+      g = onHeld p (onNumber n f)
+
+      k : (e : Enlistment) → (heldBy p (g e) && isDurable (g e)) ≡ true → (e .holder ≡ p) × (g e .rm ≡ e .rm) × (g e .number ≡ e .number) × (g e .kind ≡ e .kind)
+      k e h = kept-here f mild e (true-and (heldBy p (g e)) (isDurable (g e)) h .0)
+
   touched : (f : Enlistment → Enlistment) → Mild f → Touched t p tb (changed f)
   unfolding changeHeld
   touched f mild = record {
@@ -214,10 +263,17 @@ module _ (tb : Table) (log : List ℕ) (n : ℕ) (s : Sound tb) (full : length l
     sized = λ w m. sized w (was f mild m);
     few = omega (arith, held-shorter p (onNumber n f) tb, s .few p (live tb s t p (nm .stands)));
     owned = λ w m. owned w (was f mild m);
+    before = nm .stands;
+    came = λ w m. came w (was f mild m);
+    numbers-apart = numbers-apart-after f mild;
+    managers-apart = managers-apart-after f mild;
   }
     where
       sized : (w : Enlistment) → Some (λ e. (w .rm ≡ e .rm) × (w .number ≡ e .number)) hs → (length (w .rm .0) ≡ identifierSize) × (w .number ≤ largestNumber)
       sized w q = (ap (λ (r : RmId). length (r .0)) (q .holds .0) ∙ held-sized tb s t p (nm .stands) (q .there) .0, rw (q .holds .1) (held-sized tb s t p (nm .stands) (q .there) .1))
+
+      came : (w : Enlistment) → Some (λ e. (w .rm ≡ e .rm) × (w .number ≡ e .number)) hs → Some (λ e. (w .rm .0 ≡ e .rm .0) × (w .number ≡ e .number)) hs
+      came w q = record { it = q .it; there = q .there; holds = (ap (λ (r : RmId). r .0) (q .holds .0), q .holds .1) }
 
       owned : (w : Enlistment) → Some (λ e. (w .rm ≡ e .rm) × (w .number ≡ e .number)) hs → Owned tb t (w .number)
       owned w q = inr (rw (q .holds .1) (owner-held tb s t p (nm .stands) (q .there) .1))
@@ -272,16 +328,16 @@ module _ (tb : Table) (log : List ℕ) (n : ℕ) (s : Sound tb) (full : length l
         go (yes q) = inl (me .rm .0, me .kind, v, ap (λ k. Note.voted t k (me .rm .0) (me .kind) v) (sym q), yes-vote)
         go (no q) = inr (keep-others (Preparing m) f (λ w. q (sym (w .0) ∙ nm .number)) h)
 
-    abbrev Has-voted : (f : Enlistment → Enlistment) → Mild f → Type 0
-    Has-voted f mild = Voted tb ev log t p (changed f) (touched f mild) refl hs (noteOf tb ev)
+    abbrev HasVoted : (f : Enlistment → Enlistment) → Mild f → Type 0
+    HasVoted f mild = Voted tb ev log t p (changed f) (touched f mild) refl hs (noteOf tb ev)
 
     -- not the last vote
-    vote-more : (f : Enlistment → Enlistment) (mild : Mild f) → Has-voted f mild → Own tb ev log t (quietly (changed f) log)
+    vote-more : (f : Enlistment → Enlistment) (mild : Mild f) → HasVoted f mild → Own tb ev log t (quietly (changed f) log)
     vote-more f mild w = unlogged tb ev log t p (changed f) (touched f mild) refl (changed f) [] (addressed-nothing tb ev) refl (λ u d. refl)
         (λ h made l a. rw (view-before transaction.phaseOne voting-state, view-after f transaction.phaseOne voting-state)
         (vote-on refl (quiet t tb ev [] (only-nothing notCommitted) (only-nothing notAborted)) (w .calm) (w .preparing) (w .hopes) (w .prepares)))
 
-    vote-decides : (f : Enlistment → Enlistment) (mild : Mild f) → Has-voted f mild → Own tb ev log t (follow then.Decide p (changed f) log)
+    vote-decides : (f : Enlistment → Enlistment) (mild : Mild f) → HasVoted f mild → Own tb ev log t (follow then.Decide p (changed f) log)
     unfolding follow
     vote-decides f mild w = by-cases (Own tb ev log t) (any (isIn enlistment.preparing) (held p (changed f))) _ _
         (λ _. vote-more f mild w)
@@ -320,6 +376,10 @@ module _ (tb : Table) (log : List ℕ) (n : ℕ) (s : Sound tb) (full : length l
   durable-stays : (k : ℕ) → Some Durable hs → Some Durable (held p (changed (inState k)))
   durable-stays k h = held-own Durable Durable p (onNumber n (inState k)) tb
       (λ e m q. by-cases (λ (w : Enlistment). Durable w × (w .holder ≡ e .holder)) (isNumbered n e) (inState k e) e (λ _. (q, refl)) (λ _. (q, refl))) h
+
+  numbers-stay : (k m : ℕ) → Some (λ e. e .number ≡ m) hs → Some (λ e. e .number ≡ m) (held p (changed (inState k)))
+  numbers-stay k m h = held-own (λ e. e .number ≡ m) (λ e. e .number ≡ m) p (onNumber n (inState k)) tb
+      (λ e i q. by-cases (λ (w : Enlistment). (w .number ≡ m) × (w .holder ≡ e .holder)) (isNumbered n e) (inState k e) e (λ _. (q, refl)) (λ _. (q, refl))) h
 
   durable-came : (k : ℕ) {w : Enlistment} → w ∈ held p (changed (inState k)) → Durable w → Some Durable hs
   durable-came k {w} m d = record { it = c .it; there = c .there; holds = sym (same (c .it)) ∙ sym (ap (λ (e : Enlistment). e .kind) (c .holds)) ∙ d }
@@ -360,6 +420,7 @@ module _ (tb : Table) (log : List ℕ) (n : ℕ) (s : Sound tb) (full : length l
           waits = λ r h. by-either inl (λ q. inr (rw (q .0) at (closes (q .1)))) (waits-stays enlistment.done r h);
           durable = durable-stays enlistment.done;
           no-durable = none-stays enlistment.done;
+          numbers = numbers-stay enlistment.done;
         })
         (own-id-size tb s t p (nm .stands)) (view-after (inState enlistment.done) transaction.committing st) (room-after enlistment.done st)
 
@@ -464,7 +525,7 @@ module _ (tb : Table) (log : List ℕ) (n : ℕ) (s : Sound tb) (full : length l
       (λ h made l g. rw (view-before transaction.committing five, view-after (inState enlistment.failedToNotify) transaction.committing five)
       (told-on refl (nothing-calm t) (none-aborted t tb lost [] (only-nothing notAborted))
       (λ r w. inl (held-own (Waits r) (Waits r) p (onNumber n (inState enlistment.failedToNotify)) tb (λ e m q. by-cases (λ (v : Enlistment). Waits r v × (v .holder ≡ e .holder)) (isNumbered n e) (inState enlistment.failedToNotify e) e (λ _. ((q .0, q .1, inr refl), refl)) (λ _. (q, refl))) w))
-      (durable-stays enlistment.failedToNotify) (none-stays enlistment.failedToNotify)))
+      (durable-stays enlistment.failedToNotify) (none-stays enlistment.failedToNotify) (numbers-stay enlistment.failedToNotify)))
     where
       five : stateAt p tb ≡ transaction.committing
       five = of-commit (stateAt p tb) me (nm .line) (inl st)
@@ -514,27 +575,27 @@ module _ (tb : Table) (log : List ℕ) (n : ℕ) (s : Sound tb) (full : length l
       soon : (eqb k enlistment.active || eqb k enlistment.zero || eqb k enlistment.preparing) ≡ true → Doomed t (viewOf t tb)
       soon q = by-either (λ w. by-either (λ v. early-doomed (inl (eqb-true k enlistment.active v))) (λ v. early-doomed (inr (eqb-true k enlistment.zero v))) (true-or (eqb k enlistment.active) (eqb k enlistment.zero) w)) (λ w. voting-doomed (inl (eqb-true k enlistment.preparing w))) (true-or (eqb k enlistment.active || eqb k enlistment.zero) (eqb k enlistment.preparing) q)
 
-  abbrev pub Reacts-to : Act → Type 0
-  Reacts-to a = Reacts a (reactionOf (me .kind) (me .state) a)
+  abbrev pub ReactsTo : Act → Type 0
+  ReactsTo a = Reacts a (reactionOf (me .kind) (me .state) a)
 
-  pub reacts-zero-done : Reacts-to (act.ZeroDone n)
+  pub reacts-zero-done : ReactsTo (act.ZeroDone n)
   unfolding reactionOf
   reacts-zero-done = by-cases (Reacts (act.ZeroDone n)) (eqb (me .state) enlistment.zero) _ _ (λ q. record { gives = λ _. own-zero-done (eqb-true (me .state) enlistment.zero q) }) (λ _. refuses (act.ZeroDone n))
 
-  pub reacts-vote : (v : Vote) → Reacts-to (act.Vote n v)
+  pub reacts-vote : (v : Vote) → ReactsTo (act.Vote n v)
   unfolding reactionOf
   reacts-vote v = by-cases (Reacts (act.Vote n v)) (eqb (me .state) enlistment.preparing) _ _ (λ q. record { gives = λ _. own-vote v (eqb-true (me .state) enlistment.preparing q) }) (λ _. refuses (act.Vote n v))
 
-  pub reacts-reply : (r : Reply) → Reacts-to (act.Reply n r)
+  pub reacts-reply : (r : Reply) → ReactsTo (act.Reply n r)
   unfolding reactionOf
   reacts-reply r = by-cases (Reacts (act.Reply n r)) (eqb (me .state) enlistment.onePhase) _ _ (λ q. record { gives = λ _. own-reply r (eqb-true (me .state) enlistment.onePhase q) }) (λ _. refuses (act.Reply n r))
 
-  pub reacts-ack : Reacts-to (act.Ack n)
+  pub reacts-ack : ReactsTo (act.Ack n)
   unfolding reactionOf
   reacts-ack = by-cases (Reacts (act.Ack n)) (eqb (me .state) enlistment.toldCommit || eqb (me .state) enlistment.toldAbort) _ _
       (λ q. record { gives = λ _. own-ack (by-either (λ w. inl (eqb-true (me .state) enlistment.toldCommit w)) (λ w. inr (eqb-true (me .state) enlistment.toldAbort w)) (true-or (eqb (me .state) enlistment.toldCommit) (eqb (me .state) enlistment.toldAbort) q)) })
       (λ _. refuses (act.Ack n))
 
-  pub reacts-to-lost : Reacts-to (act.Lost n)
+  pub reacts-to-lost : ReactsTo (act.Lost n)
   unfolding reactionOf
   reacts-to-lost = reacts-lost

@@ -11,7 +11,7 @@ use borrow.Author.Tests.{eqb-true, eqb-false, eq-eqb}
 use Rattle.lists.specs.Members.{_∈_, Each, Some}
 use Rattle.lists.specs.Lists.{all, any, filter}
 use Rattle.lists.specs.Places.{placesFrom, placesWhere}
-use Rattle.lists.proofs.Tests.{by-test, by-either, no-clash, is-false, true-and, in-map, of-map, each-head, each-rest, all-each, some-any}
+use Rattle.lists.proofs.Tests.{by-test, by-either, no-clash, is-false, true-and, in-map, of-map, each-head, each-rest, all-each, some-any, any-some}
 use Rattle.lists.proofs.Places.{in-places, of-places}
 use Rattle.lists.proofs.Sorting.{in-sort, of-sort}
 use Rattle.rules.specs.declared.Transaction.{Transaction}
@@ -21,30 +21,35 @@ use Rattle.rules.specs.declared.Vote.the-variants as vote
 use Rattle.rules.specs.Kinds as kind
 use Rattle.rules.specs.TransactionState as transaction
 use Rattle.rules.specs.EnlistmentState as enlistment
-use Rattle.rules.specs.Identifiers.{Id, sameBytes}
-use Rattle.rules.specs.Table.{noTransaction, isNamed, placeNamed, transactionAt, stateAt, heldBy, held, isDurable, isDurableOf, isIn, isDone, inState, withEnlistments}
+use Rattle.rules.specs.Identifiers.{Id, sameBytes, isZero}
+use Rattle.rules.specs.Table.{noTransaction, isNamed, placeNamed, transactionAt, stateAt, heldBy, held, isDurable, isDurableOf, isIn, isDone, inState, withEnlistments, idAt}
 use Rattle.rules.specs.Sound.{Sound, HoldsWell, In, Durable, isOpen, openPlaces, openCount, active, phase-zero, phase-one, single-phase, committing, aborting}
 use Rattle.rules.specs.Events.{doneFor, byIdentifier, finished, endEach, reenlistedOf}
 use Rattle.rules.proofs.Identifiers.{same-equal}
-use Rattle.rules.proofs.Frames.{named-found, none-absent, named-place, Stands, Absent}
+use Rattle.rules.proofs.Frames.{named-found, none-absent, named-place, Stands, Absent, is-named}
+use Rattle.rules.specs.Restart.{Open, isOpenAs}
 use Rattle.safety.specs.World.{Note}
 use Rattle.safety.specs.Host.{Closes}
 use Rattle.safety.proofs.Alone as alone
 use Rattle.safety.proofs.Alone.{Story, closed, View, out, Waits}
 use Rattle.safety.proofs.Move.{Quiet, Calm, Move, stay, told-on, end-logged}
 use Rattle.safety.proofs.Top.{Agrees}
-use Rattle.safety.proofs.Story.{story, onForget}
+use Rattle.safety.proofs.Story.{story, onForget, Tells}
 use Rattle.safety.proofs.View.{viewOf, look, view-stands, view-absent}
 use Rattle.safety.proofs.Given.{stands-sound, id-size, row}
 use Rattle.safety.proofs.Own.{by-cases}
 use Rattle.safety.proofs.Reactions.{live, of-commit}
-use Rattle.safety.proofs.Ends.{Roomy, Seen, forgets, each-other, each-own}
+use Rattle.safety.proofs.Fitting.{Ready, Judged, mine-some, live-nonzero}
+use Rattle.safety.proofs.Ends.{Roomy, Seen, forgets, each-other, each-own, Forgettable, each-fits, open-live, live-open}
 
 -- ── the enlistments ─────────────────────────────────────────────────────────────────────────────────────────────
 
 module _ (r : Id) where
   done-kept : (e : Enlistment) → (doneFor r e .holder ≡ e .holder) × (doneFor r e .kind ≡ e .kind)
   done-kept e = by-cases (λ (w : Enlistment). (w .holder ≡ e .holder) × (w .kind ≡ e .kind)) (isDurableOf r e && isIn enlistment.failedToNotify e) (inState enlistment.done e) e (λ _. (refl, refl)) (λ _. (refl, refl))
+
+  done-number : (e : Enlistment) → doneFor r e .number ≡ e .number
+  done-number e = by-cases (λ (w : Enlistment). w .number ≡ e .number) (isDurableOf r e && isIn enlistment.failedToNotify e) (inState enlistment.done e) e (λ _. refl) (λ _. refl)
 
   -- what was not Done and is, was r's, durable, and in Failed-to-notify
   done-now : (e : Enlistment) → isDone (doneFor r e) ≡ true → (isDone e ≡ true) ⊎ ((isDurableOf r e && isIn enlistment.failedToNotify e) ≡ true)
@@ -122,6 +127,36 @@ module _ (r : Id) (tb : Table) (log : List ℕ) (s : Sound tb) (full : length lo
   pub roomy-after : Roomy after log
   unfolding after
   roomy-after = record { sized = λ q l. id-size tb s q l; room = rw (as-many, full) (s .room) }
+
+  -- ── what it writes fits ───────────────────────────────────────────────────────────────────────────────────────
+
+  forgettable : (os : List Open) → Ready tb log os → Forgettable after (length log) os
+  unfolding after
+  forgettable os r = record {
+    opened = λ q b. opened q (sym (open-after q (stateAt q tb)) ∙ b);
+    unlike = λ q k a b e. sym (stands-sound tb s (idAt q tb) q (is-named (transactionAt q tb) a) .alone k (rw e (is-named (transactionAt k tb) b)));
+    sizes = λ q a. id-size tb s q a;
+    space = r .room;
+  }
+    where
+      at : (q : ℕ) → isOpen (stateAt q tb) (held q tb) ≡ true → Stands (idAt q tb) q tb
+      at q b = stands-sound tb s (idAt q tb) q (is-named (transactionAt q tb) (open-live q tb b))
+
+      durable : (q : ℕ) → isOpen (stateAt q tb) (held q tb) ≡ true → any isDurable (held q tb) ≡ true
+      durable q b = true-and (eqb (stateAt q tb) transaction.committing) (any isDurable (held q tb)) b .1
+
+      shows : (q : ℕ) → isOpen (stateAt q tb) (held q tb) ≡ true → viewOf (idAt q tb) tb ≡ alone.committing (held q tb)
+      shows q b = view-stands (idAt q tb) q tb (at q b) ∙ ap (λ n. look n (held q tb)) (live-open (stateAt q tb) (held q tb) b)
+
+      told-open : (q : ℕ) → (k : Story) → any isDurable (held q tb) ≡ true → Agrees (alone.committing (held q tb)) k → Tells (idAt q tb) k os → any (isOpenAs (idAt q tb)) os ≡ true
+      told-open q k d (inl (rs, e, y, n)) h = let w : Tells (idAt q tb) (alone.open-with rs) os = rw e at h in mine-some (idAt q tb) os (w .0) (w .1)
+      told-open q k d (inr (e, y)) h = let w : Some (λ x. isDurable x ≡ true) (held q tb) = any-some isDurable (held q tb) d in absurd (y (w .it) (w .there) (eqb-true (w .it .kind) kind.durable (w .holds)))
+
+      opened : (q : ℕ) → isOpen (stateAt q tb) (held q tb) ≡ true → (isZero (idAt q tb) ≡ false) × (any (isOpenAs (idAt q tb)) os ≡ true)
+      opened q b = (live-nonzero tb s (idAt q tb) q (at q b), told-open q (r .storied (idAt q tb)) (durable q b) (rw (shows q b) at (r .agrees (idAt q tb))) (r .tells (idAt q tb)))
+
+  pub reenlisted-judged : Judged tb log (endEach ps after log .table .used) (forgets ps after log)
+  reenlisted-judged = record { judged = λ os r. each-fits ps after log (length log) os (forgettable os r) }
 
   -- ── to one transaction ────────────────────────────────────────────────────────────────────────────────────────
 
@@ -204,7 +239,7 @@ module _ (r : Id) (tb : Table) (log : List ℕ) (s : Sound tb) (full : length lo
             still v d = by-either (λ y. omega (arith, y, d)) (λ y. omega (arith, y, d)) (v .2)
 
         is-closed : Agrees (alone.committing hs) l → onForget l ≡ closed
-        is-closed (inl (rs, q, y)) = rw q refl
+        is-closed (inl (rs, q, y, n)) = rw q refl
         is-closed (inr (q, y)) = absurd (y (has-durable .it) (has-durable .there) (has-durable .holds))
 
         ends : M (viewOf t tb) Result
@@ -227,7 +262,8 @@ module _ (r : Id) (tb : Table) (log : List ℕ) (s : Sound tb) (full : length lo
             (told-on (seen .tale l) calm (silent .no-aborted)
             (λ q w. by-either (λ v. inl (record { it = doneFor r (w .it); there = in-map (doneFor r) (w .there); holds = v })) (λ e. inr (inr (ap Note.reenlisted (sym e)))) (done-waits r q (w .it) (w .holds)))
             (λ w. record { it = doneFor r (w .it); there = in-map (doneFor r) (w .there); holds = done-kept r (w .it) .1 ∙ w .holds })
-            (λ nd e m d. let c : Some (λ w. doneFor r w ≡ e) hs = of-map (doneFor r) hs m in nd (c .it) (c .there) (sym (done-kept r (c .it) .1) ∙ ap (λ (w : Enlistment). w .kind) (c .holds) ∙ d)))
+            (λ nd e m d. let c : Some (λ w. doneFor r w ≡ e) hs = of-map (doneFor r) hs m in nd (c .it) (c .there) (sym (done-kept r (c .it) .1) ∙ ap (λ (w : Enlistment). w .kind) (c .holds) ∙ d))
+            (λ n w. record { it = doneFor r (w .it); there = in-map (doneFor r) (w .there); holds = done-number r (w .it) ∙ w .holds }))
 
         -- before the decision, and after an abort, none is in Failed-to-notify
         unmoved : (stateAt p tb ≡ transaction.committing → ⊥) → map (doneFor r) hs ≡ hs

@@ -27,10 +27,10 @@ use Rattle.rules.specs.Restart.{Open, isOpenAs, openAfter, reopened, reenlistme
 use Rattle.rules.proofs.Records.{Valid, Cut, cut, scan-all, behind-all}
 use Rattle.rules.proofs.Refused.{refused-restart}
 use Rattle.rules.proofs.Frames.{in-held, none-absent}
-use Rattle.safety.proofs.Alone.{Story, none, open-with, closed, bad, out, committing, Waits}
+use Rattle.safety.proofs.Alone.{Story, none, open-with, closed, bad, out, committing, Waits, managersOf}
 use Rattle.safety.proofs.Cut.{Restored}
 use Rattle.safety.proofs.Top.{Restores}
-use Rattle.safety.proofs.Story.{story, storyOf, managersOf, Formed, header-formed, story-formed, valid-front, mine, Tells, tells}
+use Rattle.safety.proofs.Story.{story, storyOf, Formed, header-formed, story-formed, valid-front, mine, Tells, tells}
 use Rattle.safety.proofs.View.{viewOf, view-absent}
 use Rattle.safety.proofs.Own.{by-cases}
 
@@ -116,7 +116,7 @@ module _ (t : Id) where
   restored none os capacity used h = out-of capacity used os h
   restored (open-with rs) os capacity used (o, h, q, n) =
       let l : Reopened 1 os (replicate (transactionPlaces - length os) noTransaction) o = one-open 1 os (replicate (transactionPlaces - length os) noTransaction) o h in
-      (held (l .p) (tableOf capacity used os), view-open capacity used os o l, (λ r m. waits-open capacity used os o l r (rw (← q) at m)), durable-open capacity used os o l (o .entries) refl n)
+      (held (l .p) (tableOf capacity used os), view-open capacity used os o l, (λ r m. waits-open capacity used os o l r (rw (← q) at m)), durable-open capacity used os o l (o .entries) refl n, (λ d m. record { it = reenlistment (l .p) d; there = held-open capacity used os o l d (rw (← q) at m); holds = refl }))
   restored closed os capacity used h = out-of capacity used os h
   restored bad os capacity used h = tt
 
@@ -150,31 +150,31 @@ story-is t bs = refl
 
 -- the header and more are stored
 module _ (disk spare rest : List ℕ) (f : Formed (disk ++ rest)) (h : headerSize ≤ length disk) where
-  abbrev body : List ℕ
+  abbrev pub body : List ℕ
   body = drop headerSize disk
 
-  parts : Cut body (f .records)
+  pub parts : Cut body (f .records)
   parts = cut (f .records) (f .valid) body rest (sym (drop-append-le headerSize disk rest h) ∙ ap (drop headerSize) (f .bytes))
 
-  abbrev rs : List Record
+  abbrev pub rs : List Record
   rs = parts .kept
 
-  ok : Each Valid rs
+  pub ok : Each Valid rs
   ok = valid-front rs (parts .lost) (subst (Each Valid) (parts .records) (f .valid))
 
-  scan-is : scan 0 body ≡ rs
+  pub scan-is : scan 0 body ≡ rs
   scan-is = ap (scan 0) (parts .bytes) ∙ scan-all rs ok (parts .is-torn)
 
-  behind-is : behind 0 body ≡ parts .torn
+  pub behind-is : behind 0 body ≡ parts .torn
   behind-is = ap (behind 0) (parts .bytes) ∙ behind-all rs ok (parts .is-torn)
 
-  used-is : usedOf body ≡ length (header ++ allBytes rs)
+  pub used-is : usedOf body ≡ length (header ++ allBytes rs)
   used-is = rw behind-is (omega (arith, ap length (parts .bytes), length-append (allBytes rs) (parts .torn), length-append header (allBytes rs)))
 
   disk-is : disk ≡ (header ++ allBytes rs) ++ parts .torn
   disk-is = sym (take-append-drop headerSize disk) ∙ ap₂ _++_ (sym (take-append-le headerSize disk rest h) ∙ ap (take headerSize) (f .bytes)) (parts .bytes) ∙ sym (append-assoc header (allBytes rs) (parts .torn))
 
-  used-part : take (usedOf body) (disk ++ spare) ≡ header ++ allBytes rs
+  pub used-part : take (usedOf body) (disk ++ spare) ≡ header ++ allBytes rs
   used-part = ap₂ take used-is (ap (λ l. l ++ spare) disk-is ∙ append-assoc (header ++ allBytes rs) (parts .torn) spare) ∙ take-at (header ++ allBytes rs) (parts .torn ++ spare) (length (header ++ allBytes rs)) refl
 
   disk-story : (t : Id) → storyOf t disk ≡ story t none rs

@@ -26,7 +26,7 @@ use Rattle.rules.specs.Sound.{Sound, soundOf}
 use Rattle.rules.specs.Log.{Record, allBytes}
 use Rattle.rules.specs.Events.{Outcome, acted, reactedOf, reactionOf, endEach, reenlistedOf}
 use Rattle.rules.specs.Refusals.{isNumberHeld, isRefused, refusalOf, isOneOf, namesZero, isNotLive, isNotHeld, isAlreadyLive, isStateWrong, isReactionRefused, isFull}
-use Rattle.rules.specs.Step.{doneStep, stepOf}
+use Rattle.rules.specs.Step.{Step, doneStep, stepOf}
 use Rattle.rules.proofs.Identifiers.{same-refl, same-equal}
 use Rattle.rules.proofs.Soundness.{sound-sentences}
 use Rattle.rules.proofs.Records.{Valid}
@@ -41,12 +41,13 @@ use Rattle.safety.proofs.Top.{Agrees, Refused, Accepted}
 use Rattle.safety.proofs.Story.{story, storyOf, Formed, formed-append, story-more}
 use Rattle.safety.proofs.View.{viewOf}
 use Rattle.safety.proofs.Given.{Named, named-sound}
+use Rattle.safety.proofs.Fitting.{Judged}
 use Rattle.safety.proofs.Messages.{quiet-other}
 use Rattle.safety.proofs.Own.{Own}
 use Rattle.safety.proofs.Reactions.{Reacts, reacts-zero-done, reacts-vote, reacts-reply, reacts-ack, reacts-to-lost}
 use Rattle.safety.proofs.Calls.{own-begin, own-enlist, own-commit, own-rollback, own-ask}
 use Rattle.safety.proofs.Ends.{forgets, each-silent, each-valid, each-bytes}
-use Rattle.safety.proofs.Reenlisted.{after, ps, reenlisted-is, roomy-after, reenlisted-move}
+use Rattle.safety.proofs.Reenlisted.{after, ps, reenlisted-is, roomy-after, reenlisted-move, reenlisted-judged}
 
 -- ── notes of one transaction are calm for every other ───────────────────────────────────────────────────────────
 
@@ -83,17 +84,28 @@ noted-subject act.Reenlisted t r tb = refl
 
 -- ── from an outcome's own move to the moves of all ──────────────────────────────────────────────────────────────
 
-abbrev Moved : Table → Event → List ℕ → Outcome → Type 0
-Moved tb e log o = Accepted viewOf storyOf Formed tb e log (doneStep o)
+-- what a step has written
+pub record Written (tb : Table) (log : List ℕ) (s : Step) : Type 0 where
+  pub records : List Record
+  pub valid : Each Valid records
+  pub bytes : usedPart (s .table) (s .log) ≡ usedPart tb log ++ allBytes records
+  pub judged : Judged tb log (s .table .used) records
+
+record Moved (tb : Table) (e : Event) (log : List ℕ) (o : Outcome) : Type 0 where
+  accepts : Accepted viewOf storyOf Formed tb e log (doneStep o)
+  written : Written tb log (doneStep o)
 
 own-all : (tb : Table) (e : Event) (log : List ℕ) (o : Outcome) → Formed (usedPart tb log) → Own tb e log (subjectOf tb e) o → Moved tb e log o
 own-all tb e log o f w = record {
-  formed = rw (w .bytes) (formed-append (usedPart tb log) f (w .records) (w .valid));
-  added = allBytes (w .records);
-  appended = w .bytes;
-  moves = λ h made t a. rw (w .bytes, story-more t (usedPart tb log) f (w .records) (w .valid)) (by-test (sameBytes t (subjectOf tb e))
-      (λ b. own h made t (same-equal t (subjectOf tb e) b) a)
-      (λ b. other h t (λ q. no-clash (sameBytes t (subjectOf tb e)) (rw q (same-refl (subjectOf tb e))) b)));
+  written = record { records = w .records; valid = w .valid; bytes = w .bytes; judged = w .judged };
+  accepts = record {
+    formed = rw (w .bytes) (formed-append (usedPart tb log) f (w .records) (w .valid));
+    added = allBytes (w .records);
+    appended = w .bytes;
+    moves = λ h made t a. rw (w .bytes, story-more t (usedPart tb log) f (w .records) (w .valid)) (by-test (sameBytes t (subjectOf tb e))
+        (λ b. own h made t (same-equal t (subjectOf tb e) b) a)
+        (λ b. other h t (λ q. no-clash (sameBytes t (subjectOf tb e)) (rw q (same-refl (subjectOf tb e))) b)));
+  };
 }
   where
     l : Id → Story
@@ -113,10 +125,13 @@ reenlisted-all : (tb : Table) (x : TxId) (y : RmId) (log : List ℕ) → Sound t
     → Moved tb (record { tx = x; rm = y; act = act.Reenlisted }) log (reenlistedOf (y .0) tb log)
 unfolding after told
 reenlisted-all tb x y log s full f = rw (reenlisted-is (y .0) tb log s full) (record {
-  formed = rw bytes (formed-append (usedPart tb log) f rs valid);
-  added = allBytes rs;
-  appended = bytes;
-  moves = λ h made t a. rw (bytes, story-more t (usedPart tb log) f rs valid, each-silent places table log) (reenlisted-move (y .0) tb log s full t h (storyOf t (usedPart tb log)) a);
+  written = record { records = rs; valid = valid; bytes = bytes; judged = reenlisted-judged (y .0) tb log s full };
+  accepts = record {
+    formed = rw bytes (formed-append (usedPart tb log) f rs valid);
+    added = allBytes rs;
+    appended = bytes;
+    moves = λ h made t a. rw (bytes, story-more t (usedPart tb log) f rs valid, each-silent places table log) (reenlisted-move (y .0) tb log s full t h (storyOf t (usedPart tb log)) a);
+  };
 })
   where
     table : Table
@@ -191,7 +206,10 @@ done : (tb : Table) (e : Event) (log : List ℕ) → eqb (stepOf tb e log .refus
 done tb e log q = sym (step-refusal tb e log) ∙ eqb-true (stepOf tb e log .refusal) 0 q
 
 pub step-accepts : (tb : Table) (e : Event) (log : List ℕ) → eqb (stepOf tb e log .refusal) 0 ≡ true → Formed (usedPart tb log) → Accepted viewOf storyOf Formed tb e log (stepOf tb e log)
-step-accepts tb e log q f = rw (step-done tb e log (done tb e log q)) (moved tb (e .tx) (e .rm) log f (e .act) (accepted tb e (length log) (done tb e log q)))
+step-accepts tb e log q f = rw (step-done tb e log (done tb e log q)) (moved tb (e .tx) (e .rm) log f (e .act) (accepted tb e (length log) (done tb e log q)) .accepts)
+
+pub step-writes : (tb : Table) (e : Event) (log : List ℕ) → eqb (stepOf tb e log .refusal) 0 ≡ true → Formed (usedPart tb log) → Written tb log (stepOf tb e log)
+step-writes tb e log q f = rw (step-done tb e log (done tb e log q)) (moved tb (e .tx) (e .rm) log f (e .act) (accepted tb e (length log) (done tb e log q)) .written)
 
 pub step-refuses : (tb : Table) (e : Event) (log : List ℕ) → eqb (stepOf tb e log .refusal) 0 ≡ false → Refused tb log (stepOf tb e log)
 step-refuses tb e log q = rw (refused-step tb e log (stepOf tb e log .refusal) refl (eqb-false (stepOf tb e log .refusal) 0 q)) (record { table-kept = refl; log-kept = refl; silent = refl })

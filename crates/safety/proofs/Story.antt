@@ -5,7 +5,7 @@ use native.Mathlib.Omega.{arith}
 use native.Mathlib.Decide.{decLe}
 use mathlib.Core.Path.{_≡_, refl, sym, _∙_, ap}
 use mathlib.Core.Bool.{true, false, cond, not, _&&_}
-use mathlib.Core.List.{List, [], _∷_, _++_, map, append-assoc, append-nil, List·Memᴰ·append-cases, Memᴰ·append-left}
+use mathlib.Core.List.{List, [], _∷_, _++_, append-assoc, append-nil, List·Memᴰ·append-cases, Memᴰ·append-left}
 use lib.ListN.{length, drop, drop-of-length-le}
 use lib.Seq.{drop-append-le}
 use Rattle.lists.specs.Lists.{filter}
@@ -21,7 +21,7 @@ use Rattle.safety.proofs.Alone.{Story, none, open-with, closed, bad, Be
 
 -- ── stories ─────────────────────────────────────────────────────────────────────────────────────────────────────
 
-abbrev pub onCommit : Story → List Id → Story
+abbrev pub onCommit : Story → List Entry → Story
 onCommit none rs = open-with rs
 onCommit (open-with qs) rs = bad
 onCommit closed rs = bad
@@ -33,11 +33,8 @@ onForget (open-with qs) = closed
 onForget closed = bad
 onForget bad = bad
 
-abbrev pub managersOf : List Entry → List Id
-managersOf es = map (λ e. e .rm) es
-
 unfoldable pub next : Id → Story → Record → Story
-next t s (Record.commit u es) = cond (sameBytes u t) (onCommit s (managersOf es)) s
+next t s (Record.commit u es) = cond (sameBytes u t) (onCommit s es) s
 next t s (Record.forget u) = cond (sameBytes u t) (onForget s) s
 
 unfoldable pub story : Id → Story → List Record → Story
@@ -47,7 +44,7 @@ story t s (r ∷ rs) = story t (next t s r) rs
 unfoldable pub storyOf : Id → List ℕ → Story
 storyOf t bs = story t none (scan 0 (drop headerSize bs))
 
-commit-up : (s : Story) (rs : List Id) → Below s (onCommit s rs)
+commit-up : (s : Story) (rs : List Entry) → Below s (onCommit s rs)
 commit-up none rs = tt
 commit-up (open-with qs) rs = tt
 commit-up closed rs = tt
@@ -61,7 +58,7 @@ forget-up bad = tt
 
 next-up : (t : Id) (s : Story) (r : Record) → Below s (next t s r)
 unfolding next
-next-up t s (Record.commit u es) = by-test (sameBytes u t) (λ e. rw e (commit-up s (managersOf es))) (λ e. rw e (below-refl s))
+next-up t s (Record.commit u es) = by-test (sameBytes u t) (λ e. rw e (commit-up s es)) (λ e. rw e (below-refl s))
 next-up t s (Record.forget u) = by-test (sameBytes u t) (λ e. rw e (forget-up s)) (λ e. rw e (below-refl s))
 
 story-up : (t : Id) (s : Story) (rs : List Record) → Below s (story t s rs)
@@ -130,7 +127,7 @@ module _ (t : Id) where
 
   abbrev pub Tells : Story → List Open → Type 0
   Tells none os = mine os ≡ []
-  Tells (open-with rs) os = (o : Open) × (mine os ≡ o ∷ []) × (managersOf (o .entries) ≡ rs) × (0 < length (o .entries))
+  Tells (open-with rs) os = (o : Open) × (mine os ≡ o ∷ []) × (o .entries ≡ rs) × (0 < length (o .entries))
   Tells closed os = mine os ≡ []
   Tells bad os = Unit {0}
 
@@ -165,7 +162,7 @@ module _ (t : Id) where
       drops : (o : Open) → (not (isOpenAs u o) && isOpenAs t o) ≡ false
       drops o = rw (same-equal u t d) (by-test (isOpenAs t o) (λ q. rw q refl) (λ q. rw q refl))
 
-  tells-commit : (s : Story) (os : List Open) (u : Id) (es : List Entry) → 0 < length es → sameBytes u t ≡ true → Tells s os → Tells (onCommit s (managersOf es)) (os ++ (record { id = u; entries = es } ∷ []))
+  tells-commit : (s : Story) (os : List Open) (u : Id) (es : List Entry) → 0 < length es → sameBytes u t ≡ true → Tells s os → Tells (onCommit s es) (os ++ (record { id = u; entries = es } ∷ []))
   tells-commit none os u es n d h = (record { id = u; entries = es }, commit-own os u es d h, refl, n)
   tells-commit (open-with rs) os u es n d h = tt
   tells-commit closed os u es n d h = tt

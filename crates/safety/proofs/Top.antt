@@ -6,6 +6,7 @@ use mathlib.Core.Logic.{_⊎_, inl, inr}
 use mathlib.Core.Bool.{Bool, true, false, false≢true}
 use mathlib.Core.List.{List, [], _∷_, _++_, map, List·Memᴰ·not-nil, append-assoc, append-nil, nil≢cons}
 use lib.Dec.{eqb}
+use borrow.Author.Tests.{eqb-true}
 use lib.ListN.{length, take}
 use Rattle.lists.specs.Members.{_∈_, Some}
 use Rattle.rules.specs.declared.Table.{Table}
@@ -15,13 +16,14 @@ use Rattle.rules.specs.declared.Vote.the-variants as vote
 use Rattle.rules.specs.Kinds as kind
 use Rattle.rules.specs.Sound.{Durable}
 use Rattle.rules.specs.Identifiers.{Id}
+use Rattle.rules.specs.Log.{Entry}
 use Rattle.rules.specs.Step.{Step, stepOf}
 use Rattle.rules.specs.Restart.{Restart, restartOf}
 use Rattle.safety.specs.World.{Note, Message, Issued, World, noteOf, messageOf, usedPart, empty, afterStep, withDisk, afterLeaving, afterRestart}
 use Rattle.safety.specs.Host.{MayAsk, careful, Makes, MoreStored, Trimmed}
 use Rattle.safety.specs.Run.{Run, start, step, store, trim, leave, restart}
 use Rattle.safety.specs.Demand3.{Committed, Aborted, Safe, Demand3}
-use Rattle.safety.proofs.Alone.{Story, none, open-with, bad, Below, below-trans, below-both, View, out, early, voting, single, committing, aborting, NoDurable, Any, Base, Shape}
+use Rattle.safety.proofs.Alone.{Story, none, open-with, bad, Below, below-trans, below-both, View, out, early, voting, single, committing, aborting, NoDurable, Entered, Any, Base, Shape}
 use Rattle.safety.proofs.Move.{Calm, Quiet, Move, keep-base, keep-shape, make-stay, stay-shape}
 use Rattle.safety.proofs.Cut.{Restored, keep-store, keep-leave, shape-leave, keep-restart, shape-restart}
 
@@ -29,11 +31,11 @@ use Rattle.safety.proofs.Cut.{Restored, keep-store, keep-leave, shape-l
 
 -- what a move may take for granted of the story
 abbrev pub Agrees : View → Story → Type 0
-Agrees out l = Unit {0}
+Agrees out l = (rs : List Entry) → l ≡ open-with rs → ⊥
 Agrees (early es) l = l ≡ none
 Agrees (voting es) l = l ≡ none
 Agrees (single es) l = l ≡ none
-Agrees (committing es) l = ((rs : List Id) × (l ≡ open-with rs) × Some Durable es) ⊎ ((l ≡ none) × NoDurable es)
+Agrees (committing es) l = ((rs : List Entry) × (l ≡ open-with rs) × Some Durable es × Entered rs es) ⊎ ((l ≡ none) × NoDurable es)
 Agrees aborting l = l ≡ none
 
 pub record Refused (tb : Table) (log : List ℕ) (s : Step) : Type 0 where
@@ -116,8 +118,8 @@ module _ (R : Refines) where
   silent-quiet : (t : Id) → Quiet t []
   silent-quiet t = record { no-committed = λ m. List·Memᴰ·not-nil (m .there); no-aborted = λ m. List·Memᴰ·not-nil (m .there) }
 
-  agrees : (t : Id) (v : View) (l : Story) (h : List Note) (waiting sent : List Issued) (issued : List Message) → Shape t v l h waiting sent issued → Agrees v l
-  agrees t out l h waiting sent issued s = tt
+  pub agrees : (t : Id) (v : View) (l : Story) (h : List Note) (waiting sent : List Issued) (issued : List Message) → Shape t v l h waiting sent issued → Agrees v l
+  agrees t out l h waiting sent issued s = s .not-open
   agrees t (early es) l h waiting sent issued s = s .undecided .log-none
   agrees t (voting es) l h waiting sent issued s = s .undecided .log-none
   agrees t (single es) l h waiting sent issued s = s .undecided .log-none
@@ -156,11 +158,11 @@ module _ (R : Refines) where
       move : (t : Id) → Move t (w .notes) (noteOf (w .table) e) (map (messageOf (w .table) e) (s .signals)) (storyOf t (usedPart (w .table) (w .log))) (storyOf t (usedPart (s .table) (s .log))) (viewOf t (w .table)) (viewOf t (s .table))
       move t = f .moves (w .notes) made t (agrees t (viewOf t (w .table)) (storyOf t (usedPart (w .table) (w .log))) (w .notes) (w .waiting) (w .sent) (w .issued) (a .shape t))
 
-  stepped : (w : World) (e : Event) → Makes careful (w .notes) e → Inv w → Inv (afterStep w (w .table) e (stepOf (w .table) e (w .log)))
+  stepped : (w : World) (e : Event) → (stepOf (w .table) e (w .log) .refusal ≡ 0 → Makes careful (w .notes) e) → Inv w → Inv (afterStep w (w .table) e (stepOf (w .table) e (w .log)))
   stepped w e made i = go (eqb (stepOf (w .table) e (w .log) .refusal) 0) refl i
     where
       go : (b : Bool) → eqb (stepOf (w .table) e (w .log) .refusal) 0 ≡ b → Inv w → Inv (afterStep w (w .table) e (stepOf (w .table) e (w .log)))
-      go true r (inl a) = inl (accepted-alive w e (stepOf (w .table) e (w .log)) r made (accepts (w .table) e (w .log) r (a .formed)) a)
+      go true r (inl a) = inl (accepted-alive w e (stepOf (w .table) e (w .log)) r (made (eqb-true (stepOf (w .table) e (w .log) .refusal) 0 r)) (accepts (w .table) e (w .log) r (a .formed)) a)
       go true r (inr d) = absurd (false≢true (sym (zero-unsound (w .table) (d .none-used)) ∙ needs-sound (w .table) e (w .log) r))
       go false r (inl a) = inl (refused-alive w e (stepOf (w .table) e (w .log)) r (refuses (w .table) e (w .log) r) a)
       go false r (inr d) = inr (refused-dead w e (stepOf (w .table) e (w .log)) r (refuses (w .table) e (w .log) r) d)
@@ -299,7 +301,7 @@ module _ (R : Refines) where
 
   pub inv : {w : World} → Run careful w → Inv w
   inv start = empty-inv
-  inv (step {w} r e tb log (p, q) made) = rw (p, q) (stepped w e made (inv r))
+  inv (step {w} r e tb log (p, q) made) = rw (p, q) (stepped w e (rw (p, q) at made) (inv r))
   inv (store {w} r disk m) = stored-inv w disk m (inv r)
   inv (trim {w} r disk m) = trimmed-inv w disk m (inv r)
   inv (leave {w} r i m (rest, p)) = left-inv w i m rest p (inv r)

