@@ -4,11 +4,17 @@ use native.Mathlib.Omega.{arith}
 use native.Mathlib.Nat.{le-of-suc-le-suc, not-suc-le-zero}
 use native.Mathlib.Numerals.{add-one}
 use mathlib.Core.Path.{_≡_, refl, ap, sym, _∙_}
-use mathlib.Core.Bool.{Bool, true, false}
+use mathlib.Core.Logic.{_⊎_, inl, inr}
+use mathlib.Core.Bool.{Bool, true, false, not}
 use mathlib.Core.List.{List, [], _∷_, map}
 use lib.ListN.{length, getD, set, drop, length-set, length-map, drop-of-length-le}
 use lib.Seq.{drop-cons}
-use Rattle.lists.specs.Places.{placeFrom, placeOf}
+use lib.Dec.{eqb}
+use borrow.Author.Tests.{eq-eqb, ne-eqb}
+use Rattle.lists.specs.Lists.{any, firstOr}
+use Rattle.lists.specs.Places.{placeFrom, placeOf, atFrom, at, changeAt}
+use Rattle.lists.proofs.Tests.{by-test, by-either}
+use Rattle.lists.proofs.Places.{at-is, change-is}
 
 -- an array's own length, from what owning it tells: `search long`
 pub long : {X Y : Type 0} (g : X → Y) (l : List X) (n : ℕ) → length (map g l) ≡ n → length l ≡ n
@@ -77,6 +83,38 @@ module _ {A : Type 0} {f : A → Bool} {n : ℕ} {l : List A} where
   pub seek-done : {i : ℕ} → Sought f n l i → n ≤ i → 0 ≡ placeOf f l
   unfolding placeFrom
   seek-done {i} p h = sym (rw (drop-done l i (omega arith)) at (p .same))
+
+-- what the place that was found says: whether any passes, and which is the first
+module _ {A : Type 0} (f : A → Bool) where
+  none-or-from : (k : ℕ) (xs : List A) → (placeFrom f k xs ≡ 0) ⊎ (k ≤ placeFrom f k xs)
+  unfolding placeFrom
+  none-or-from k [] = inl refl
+  none-or-from k (x ∷ xs) = by-test (f x)
+      (λ e. rw e (inr (omega arith)))
+      (λ e. rw e (by-either (λ n. inl n) (λ h. inr (omega arith)) (none-or-from (suc k) xs)))
+
+  any-from : (k : ℕ) (xs : List A) → 0 < k → any f xs ≡ not (eqb (placeFrom f k xs) 0)
+  unfolding any placeFrom
+  any-from k [] h = refl
+  any-from k (x ∷ xs) h = by-test (f x) (λ e. rw (e, ne-eqb k 0 (omega arith))) (λ e. rw e (any-from (suc k) xs (omega arith)))
+
+  pub any-place : (xs : List A) → any f xs ≡ not (eqb (placeOf f xs) 0)
+  any-place xs = any-from 1 xs (omega arith)
+
+  first-from : (d : A) (k : ℕ) (xs : List A) → 0 < k → firstOr d f xs ≡ atFrom d k (placeFrom f k xs) xs
+  unfolding firstOr placeFrom atFrom
+  first-from d k [] h = refl
+  first-from d k (x ∷ xs) h = by-test (f x)
+      (λ e. rw (e, eq-eqb k k refl))
+      (λ e. rw (e, ne-eqb k (placeFrom f (suc k) xs) (λ q. by-either (λ n. omega arith) (λ l. omega arith) (none-or-from (suc k) xs)))
+      (first-from d (suc k) xs (omega arith)))
+
+  pub first-at-place : (d : A) (xs : List A) → firstOr d f xs ≡ at d (placeOf f xs) xs
+  first-at-place d xs = first-from d 1 xs (omega arith)
+
+-- what is put at a place is what the change makes of what stands there
+pub change-there : {A : Type 0} (f : A → A) (d : A) (p : ℕ) (xs : List A) → changeAt p f xs ≡ changeAt p (λ y. f (at d p xs)) xs
+change-there f d p xs = rw (change-is f p d xs, change-is (λ y. f (at d p xs)) p d xs, at-is d p xs) (by-test (eqb p 0) (λ e. rw e) (λ e. rw e))
 
 -- ── two arrays side by side ─────────────────────────────────────────────────────────────────────────────────────
 

@@ -20,6 +20,5 @@ same-spec =
     (λ c. search needs)
     (λ c. search needs)
     (λ c. pair-next 0 (c .before .before .loop .inv) (c .before .loop-test .taken) (λ xs ys. rw (c .if1 .taken)))
-
     (λ c. pair-stop 0 (c .before .before .loop .inv) (c .before .loop-test .taken) (λ xs ys. rw (c .if1 .left)))
     (λ c. pair-done (c .before .loop .inv) (c .loop-test .left) refl))
