@@ -2,3 +2,4 @@ pub mod Tests
 pub mod Sorting
 pub mod Places
 pub mod Loops
+pub mod Says
