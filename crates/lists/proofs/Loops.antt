@@ -5,13 +5,13 @@ use native.Mathlib.Nat.{le-of-suc-le-suc, not-suc-le-zero}
 use native.Mathlib.Numerals.{add-one}
 use mathlib.Core.Path.{_≡_, refl, ap, sym, _∙_}
 use mathlib.Core.Logic.{_⊎_, inl, inr}
-use mathlib.Core.Bool.{Bool, true, false, not}
+use mathlib.Core.Bool.{Bool, true, false, cond, not, _&&_, _||_}
 use mathlib.Core.List.{List, [], _∷_, map}
 use lib.ListN.{length, getD, set, drop, length-set, length-map, drop-of-length-le}
 use lib.Seq.{drop-cons}
 use lib.Dec.{eqb}
-use borrow.Author.Tests.{eq-eqb, ne-eqb}
-use Rattle.lists.specs.Lists.{any, firstOr}
+use borrow.Author.Tests.{eq-eqb, ne-eqb, eqb-true, eqb-false}
+use Rattle.lists.specs.Lists.{all, any, filter, count, firstOr}
 use Rattle.lists.specs.Places.{placeFrom, placeOf, atFrom, at, changeAt}
 use Rattle.lists.proofs.Tests.{by-test, by-either}
 use Rattle.lists.proofs.Places.{at-is, change-is}
@@ -112,6 +112,39 @@ module _ {A : Type 0} (f : A → Bool) where
   pub first-at-place : (d : A) (xs : List A) → firstOr d f xs ≡ at d (placeOf f xs) xs
   first-at-place d xs = first-from d 1 xs (omega arith)
 
+-- what a count says: whether any passes, and whether all do
+module _ {A : Type 0} (f : A → Bool) where
+  pub count-most : (xs : List A) → count f xs ≤ length xs
+  unfolding count
+  count-most [] = omega arith
+  count-most (x ∷ xs) = let h : count f xs ≤ length xs = count-most xs in by-test (f x) (λ e. rw e (omega arith)) (λ e. rw e (omega arith))
+
+  pub any-count : (xs : List A) → any f xs ≡ not (eqb (count f xs) 0)
+  unfolding any count
+  any-count [] = refl
+  any-count (x ∷ xs) = by-test (f x) (λ e. rw (e, ne-eqb (suc (count f xs)) 0 (omega arith))) (λ e. rw e (any-count xs))
+
+  pub all-count : (xs : List A) → all f xs ≡ eqb (count f xs) (length xs)
+  unfolding all count
+  all-count [] = sym (eq-eqb 0 0 refl)
+  all-count (x ∷ xs) = let h : count f xs ≤ length xs = count-most xs in by-test (f x)
+      (λ e. rw e (all-count xs ∙ by-test (eqb (count f xs) (length xs))
+      (λ q. q ∙ sym (eq-eqb (suc (count f xs)) (suc (length xs)) (ap suc (eqb-true _ _ q))))
+      (λ q. let n : count f xs ≡ length xs → ⊥ = eqb-false _ _ q in q ∙ sym (ne-eqb (suc (count f xs)) (suc (length xs)) (λ z. n (omega arith))))))
+      (λ e. rw (e, ne-eqb (count f xs) (suc (length xs)) (omega arith)))
+
+-- tests of those that pass another
+module _ {A : Type 0} (f g : A → Bool) where
+  pub any-filter : (xs : List A) → any f (filter g xs) ≡ any (λ x. g x && f x) xs
+  unfolding any filter
+  any-filter [] = refl
+  any-filter (x ∷ xs) = by-test (g x) (λ e. rw e (ap (λ b. f x || b) (any-filter xs))) (λ e. rw e (any-filter xs))
+
+  pub first-filter : (d : A) (xs : List A) → firstOr d f (filter g xs) ≡ firstOr d (λ x. g x && f x) xs
+  unfolding firstOr filter
+  first-filter d [] = refl
+  first-filter d (x ∷ xs) = by-test (g x) (λ e. rw e (ap (λ y. cond (f x) x y) (first-filter d xs))) (λ e. rw e (first-filter d xs))
+
 -- what is put at a place is what the change makes of what stands there
 pub change-there : {A : Type 0} (f : A → A) (d : A) (p : ℕ) (xs : List A) → changeAt p f xs ≡ changeAt p (λ y. f (at d p xs)) xs
 change-there f d p xs = rw (change-is f p d xs, change-is (λ y. f (at d p xs)) p d xs, at-is d p xs) (by-test (eqb p 0) (λ e. rw e) (λ e. rw e))
@@ -148,10 +181,12 @@ module _ {A B : Type 0} {f : ℕ → List A → B} {n : ℕ} {l : List A} where
   pub gather-start : {b : B} → length l ≡ n → b ≡ f n [] → Gathered f n l b n
   gather-start h e = record { within = omega arith; long = h; same = rw (drop-done l n (omega arith)) e }
 
-  pub gather-again : {b b′ : B} {i : ℕ} (d : A) → Gathered f n l b i → 0 < i → ((xs : List A) → b ≡ f i xs → b′ ≡ f (i - 1) (getD l (i - 1) d ∷ xs)) → Gathered f n l b′ (i - 1)
-  gather-again {b} {b′} {i} d p h e =
+  -- g puts one more in front
+  pub gather-again : {b b′ : B} {i : ℕ} (g : A → B → B) (d : A) → Gathered f n l b i → 0 < i → b′ ≡ g (getD l (i - 1) d) b
+      → ((x : A) (xs : List A) → f (i - 1) (x ∷ xs) ≡ g x (f i xs)) → Gathered f n l b′ (i - 1)
+  gather-again {b} {b′} {i} g d p h q e =
       let back : i - 1 + 1 ≡ i = omega arith in
-      record { within = omega arith; long = p .long; same = rw (drop-at l (i - 1) d (omega arith), back) (e (drop i l) (p .same)) }
+      record { within = omega arith; long = p .long; same = rw (drop-at l (i - 1) d (omega arith), back, e (getD l (i - 1) d) (drop i l), ← p .same) q }
 
   pub gather-done : {b : B} {i : ℕ} → Gathered f n l b i → i ≤ 0 → b ≡ f 0 l
   gather-done {b} {i} p h = let z : i ≡ 0 = omega arith in rw z at (p .same)
