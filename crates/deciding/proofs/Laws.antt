@@ -18,16 +18,9 @@ use Rattle.rules.specs.Signals.{byNumber, rowOf}
 use Rattle.rules.specs.Log.{Record, recordBytes, written}
 use Rattle.rules.specs.Events.{saying, append, entryOf, commitRecord, commitSignals, committing}
 use Rattle.signals.specs.declared.Line.{Line}
-use Rattle.signals.specs.Rows.{rowTo}
 use Rattle.signals.specs.Lines.{lineOf}
+use Rattle.signals.proofs.Rows.{take-row}
 use Rattle.endings.specs.Gives.{Gives}
-
-take-row : {A : Type 0} (d : A) (k : ℕ) (xs : List A) → length xs ≤ k → take (length xs) (rowTo d k xs) ≡ xs
-unfolding rowTo
-take-row d zero [] h = refl
-take-row d zero (x ∷ xs) h = absurd (omega arith)
-take-row d (suc k) [] h = refl
-take-row d (suc k) (x ∷ xs) h = ap (λ l. x ∷ l) (take-row d k xs (omega arith))
 
 line-take : {l : Line} (es : List Enlistment) → l ≡ lineOf es → length es ≤ signalsMost → take (l .count) (l .items) ≡ es
 unfolding lineOf

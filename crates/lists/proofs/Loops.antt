@@ -5,14 +5,14 @@ use native.Mathlib.Nat.{le-of-suc-le-suc, not-suc-le-zero}
 use native.Mathlib.Numerals.{add-one}
 use mathlib.Core.Path.{_≡_, refl, ap, sym, _∙_}
 use mathlib.Core.Logic.{_⊎_, inl, inr}
-use mathlib.Core.Bool.{Bool, true, false, cond, not, _&&_, _||_, false≢true}
+use mathlib.Core.Bool.{Bool, true, false, cond, not, _&&_, _||_}
 use mathlib.Core.List.{List, [], _∷_, _++_, map, append-nil, append-assoc}
 use lib.ListN.{length, getD, set, take, drop, length-set, length-map, drop-of-length-le}
 use lib.Seq.{drop-cons, take-all, take-suc-set}
 use lib.Dec.{eqb}
 use borrow.Author.Tests.{eq-eqb, ne-eqb, eqb-true, eqb-false}
-use Rattle.lists.specs.Lists.{all, any, filter, count, firstOr, differ}
-use Rattle.lists.specs.Places.{placeFrom, placeOf, atFrom, at, changeAt, eachFrom, eachPlace}
+use Rattle.lists.specs.Lists.{all, any, filter, count, firstOr}
+use Rattle.lists.specs.Places.{placeFrom, placeOf, atFrom, at, changeAt}
 use Rattle.lists.proofs.Tests.{by-test, by-either}
 use Rattle.lists.proofs.Places.{at-is, change-is}
 
@@ -52,14 +52,6 @@ module _ {A B : Type 0} {g : ℕ → List A → B} {n : ℕ} {l : List A} where
 
   pub look-done : {i : ℕ} {r : B} → Looked g n l i → n ≤ i → g i [] ≡ r → r ≡ g 0 l
   look-done {i} p h e = sym ((rw (drop-done l i (omega arith)) at (p .same)) ∙ e)
-
--- the same where a test decides: it says b, and so the loop goes on (miss) or stops (hit)
-module _ {A B : Type 0} {g : ℕ → List A → B} {n : ℕ} {l : List A} (f : A → Bool) where
-  pub miss : {i : ℕ} {b : Bool} (d : A) → Looked g n l i → i < n → f (getD l i d) ≡ b → ((x : A) (xs : List A) → f x ≡ b → g i (x ∷ xs) ≡ g (i + 1) xs) → Looked g n l (i + 1)
-  miss {i} d p h t e = look-next d p h (λ xs. e (getD l i d) xs t)
-
-  pub hit : {i : ℕ} {r : B} {b : Bool} (d : A) → Looked g n l i → i < n → f (getD l i d) ≡ b → ((x : A) (xs : List A) → f x ≡ b → g i (x ∷ xs) ≡ r) → r ≡ g 0 l
-  hit {i} d p h t e = look-stop d p h (λ xs. e (getD l i d) xs t)
 
 -- ── the first place that passes f ───────────────────────────────────────────────────────────────────────────────
 
@@ -148,89 +140,6 @@ module _ {A : Type 0} (f g : A → Bool) where
 -- what is put at a place is what the change makes of what stands there
 pub change-there : {A : Type 0} (f : A → A) (d : A) (p : ℕ) (xs : List A) → changeAt p f xs ≡ changeAt p (λ y. f (at d p xs)) xs
 change-there f d p xs = rw (change-is f p d xs, change-is (λ y. f (at d p xs)) p d xs, at-is d p xs) (by-test (eqb p 0) (λ e. rw e) (λ e. rw e))
-
--- ── a test of each place, of its number and what stands there ───────────────────────────────────────────────────
-
-pub record Tested {A : Type 0} (f : ℕ → A → Bool) (n : ℕ) (l : List A) (i : ℕ) : Type 0 where
-  pub within : i ≤ n
-  pub long : length l ≡ n
-  pub same : eachPlace f l ≡ eachFrom f (i + 1) (drop i l)
-
-module _ {A : Type 0} {f : ℕ → A → Bool} {n : ℕ} {l : List A} where
-  pub test-start : length l ≡ n → Tested f n l 0
-  test-start h = record { within = omega arith; long = h; same = refl }
-
-  pub test-next : {i : ℕ} {b : Bool} (d : A) → Tested f n l i → i < n → b ≡ f (i + 1) (getD l i d) → b ≡ true → Tested f n l (i + 1)
-  unfolding eachFrom
-  test-next {i} d p h e t = record { within = omega arith; long = p .long; same = (rw (drop-at l i d (omega arith), sym e ∙ t) at (p .same)) ∙ rw (add-one (i + 1)) }
-
-  pub test-stop : {i : ℕ} {b : Bool} (d : A) → Tested f n l i → i < n → b ≡ f (i + 1) (getD l i d) → b ≡ false → false ≡ eachPlace f l
-  unfolding eachFrom
-  test-stop {i} d p h e t = sym (rw (drop-at l i d (omega arith), sym e ∙ t) at (p .same))
-
-  pub test-done : {i : ℕ} → Tested f n l i → n ≤ i → true ≡ eachPlace f l
-  unfolding eachFrom
-  test-done {i} p h = sym (rw (drop-done l i (omega arith)) at (p .same))
-
--- ── whether any passes from an index on ─────────────────────────────────────────────────────────────────────────
-
-pub record Behind {A : Type 0} (f : A → Bool) (n : ℕ) (l : List A) (from i : ℕ) : Type 0 where
-  pub long : length l ≡ n
-  pub same : any f (drop from l) ≡ any f (drop i l)
-
-module _ {A : Type 0} {f : A → Bool} {n : ℕ} {l : List A} {from : ℕ} where
-  pub behind-start : length l ≡ n → Behind f n l from from
-  behind-start h = record { long = h; same = refl }
-
-  pub behind-miss : {i : ℕ} {b : Bool} (d : A) → Behind f n l from i → i < n → b ≡ f (getD l i d) → b ≡ false → Behind f n l from (i + 1)
-  unfolding any
-  behind-miss {i} d p h e t = record { long = p .long; same = rw (drop-at l i d (omega (arith, p .long)), sym e ∙ t) at (p .same) }
-
-  pub behind-hit : {i : ℕ} {b : Bool} (d : A) → Behind f n l from i → i < n → b ≡ f (getD l i d) → b ≡ true → true ≡ any f (drop from l)
-  unfolding any
-  behind-hit {i} d p h e t = sym (rw (drop-at l i d (omega (arith, p .long)), sym e ∙ t) at (p .same))
-
-  pub behind-done : {i : ℕ} → Behind f n l from i → n ≤ i → false ≡ any f (drop from l)
-  unfolding any
-  behind-done {i} p h = sym (rw (drop-done l i (omega (arith, p .long))) at (p .same))
-
--- ── whether no two of those that pass f are alike ───────────────────────────────────────────────────────────────
-
--- x passes, and one of these is like it
-abbrev pub clashes : {A : Type 0} → (A → Bool) → (A → A → Bool) → A → List A → Bool
-clashes f alike x ys = f x && any (λ y. f y && alike x y) ys
-
-module _ {A : Type 0} (f : A → Bool) (alike : A → A → Bool) (x : A) (xs : List A) where
-  apart-here : clashes f alike x xs ≡ false → differ alike (filter f (x ∷ xs)) ≡ differ alike (filter f xs)
-  unfolding differ filter
-  apart-here e = by-test (f x)
-      (λ t. rw (t, any-filter (alike x) f xs, rw t at e))
-      (λ t. rw t)
-
-  clash-here : clashes f alike x xs ≡ true → differ alike (filter f (x ∷ xs)) ≡ false
-  unfolding differ filter
-  clash-here e = by-test (f x)
-      (λ t. rw (t, any-filter (alike x) f xs, rw t at e))
-      (λ t. absurd (false≢true (rw t at e)))
-
-pub record Differing {A : Type 0} (f : A → Bool) (alike : A → A → Bool) (n : ℕ) (l : List A) (i : ℕ) : Type 0 where
-  pub within : i ≤ n
-  pub long : length l ≡ n
-  pub same : differ alike (filter f l) ≡ differ alike (filter f (drop i l))
-
-module _ {A : Type 0} {f : A → Bool} {alike : A → A → Bool} {n : ℕ} {l : List A} where
-  pub differ-start : length l ≡ n → Differing f alike n l 0
-  differ-start h = record { within = omega arith; long = h; same = refl }
-
-  pub differ-next : {i : ℕ} {b : Bool} (d : A) → Differing f alike n l i → i < n → b ≡ clashes f alike (getD l i d) (drop (i + 1) l) → b ≡ false → Differing f alike n l (i + 1)
-  differ-next {i} d p h e t = record { within = omega arith; long = p .long; same = rw (drop-at l i d (omega arith), apart-here f alike (getD l i d) (drop (i + 1) l) (sym e ∙ t)) at (p .same) }
-
-  pub differ-stop : {i : ℕ} {b : Bool} (d : A) → Differing f alike n l i → i < n → b ≡ clashes f alike (getD l i d) (drop (i + 1) l) → b ≡ true → false ≡ differ alike (filter f l)
-  differ-stop {i} d p h e t = sym (rw (drop-at l i d (omega arith), clash-here f alike (getD l i d) (drop (i + 1) l) (sym e ∙ t)) at (p .same))
-
-  pub differ-done : {i : ℕ} → Differing f alike n l i → n ≤ i → true ≡ differ alike (filter f l)
-  unfolding differ filter
-  differ-done {i} p h = sym (rw (drop-done l i (omega arith)) at (p .same))
 
 -- ── two arrays side by side ─────────────────────────────────────────────────────────────────────────────────────
 
