@@ -1,8 +1,8 @@
 -- The commit record: the row of the durable enlistments, as far as it is full, is their list.
-use Prim.Native.Nat.{ℕ, zero, suc, _≤_}
+use Prim.Native.Nat.{ℕ, _≤_}
 use native.Mathlib.Omega.{arith}
-use mathlib.Core.Path.{_≡_, refl, ap, _∙_}
-use mathlib.Core.List.{List, [], _∷_, map}
+use mathlib.Core.Path.{_≡_, ap, _∙_}
+use mathlib.Core.List.{List, map}
 use lib.ListN.{length, take}
 use Rattle.lists.specs.Lists.{filter}
 use Rattle.lists.specs.Sorting.{sortBy}

@@ -2,14 +2,13 @@
 
 ghost use mathlib.Core.Path.{_≡_};
 ghost use mathlib.Core.Bool.{_&&_};
-ghost use mathlib.Core.List.{[], _++_};
 ghost use Prim.Native.Nat.{_≤_};
 ghost use lib.Dec.{eqb};
 ghost use lib.ListN.{length};
 ghost use Rattle.rules.specs.Sizes.{heldMost};
 ghost use Rattle.rules.specs.Table.{held, idAt, goTo, changeHeld, inState};
 ghost use Rattle.rules.specs.Signals.{toEach, rowOf};
-ghost use Rattle.rules.specs.Events.{saying, quietly, append, commitRecord, commitSignals, committing, lacksRoom, decideOf, startPhaseOne, commitOf};
+ghost use Rattle.rules.specs.Events.{saying, append, commitRecord, commitSignals, committing, lacksRoom, decideOf, startPhaseOne, commitOf};
 ghost use Rattle.endings.specs.Gives.{Gives, usedMost};
 use endings::Accepted;
 use passes::Change;

@@ -1,6 +1,5 @@
 -- What the pieces of an ending make together: each is what the definition names, so that the whole is.
-use Prim.Native.Nat.{ℕ, _≤_, _+_}
-use native.Mathlib.Omega.{arith}
+use Prim.Native.Nat.{ℕ, _+_}
 use mathlib.Core.Path.{_≡_, refl, sym, ap, _∙_}
 use mathlib.Core.Bool.{Bool, true, false}
 use mathlib.Core.List.{List}

@@ -1,5 +1,5 @@
 -- How the code gives an outcome: a table, or a table and its signals in a row; and the log as it leaves it.
-use Prim.Native.Nat.{ℕ, _≤_, _+_}
+use Prim.Native.Nat.{ℕ}
 use mathlib.Core.Path.{_≡_}
 use mathlib.Core.List.{List}
 use Rattle.rules.specs.declared.Table.{Table}

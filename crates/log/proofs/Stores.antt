@@ -1,7 +1,7 @@
 -- Runs of stores in a slice: what is still to be stored gives the whole.
 use Prim.Native.Nat.{ℕ, suc, _+_, _*_, _≤_, _<_}
 use native.Mathlib.Omega.{arith}
-use mathlib.Core.Path.{_≡_, refl, sym, ap, _∙_}
+use mathlib.Core.Path.{_≡_, refl, sym, _∙_}
 use mathlib.Core.List.{List, [], _∷_, _++_, map}
 use lib.ListN.{length, getD, set, drop, length-set, length-append, length-map}
 use lib.Seq.{sets, length-sets}

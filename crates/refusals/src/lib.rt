@@ -2,10 +2,9 @@
 
 ghost use mathlib.Core.Path.{_≡_};
 ghost use mathlib.Core.Bool.{true, _||_};
-ghost use Rattle.lists.specs.Lists.{any};
 ghost use Rattle.rules.specs.Identifiers.{isZero};
 ghost use Rattle.rules.specs.Table.{held};
-ghost use Rattle.rules.specs.Events.{isUndone, isOver};
+ghost use Rattle.rules.specs.Events.{isOver};
 ghost use Rattle.rules.specs.Sound.{soundOf};
 ghost use Rattle.rules.specs.Refusals.{firstOf, refusalOf};
 ghost use Rattle.refusals.specs.Checking.{isEarly, heldAlready, fullFor, beginChecks, enlistChecks, commitChecks, rollbackChecks, aboutOneChecks, askChecks, reenlistedChecks};

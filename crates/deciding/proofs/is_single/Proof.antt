@@ -1,5 +1,4 @@
 -- Two tests decide.
-use borrow.Author.Needs.{needs}
 use Rattle.deciding.proofs.is_single.Statement.{statement}
 use Rattle.deciding.proofs.is_single.Tie as tie
 

@@ -1,13 +1,11 @@
 -- All are Done where the counts are the same.
-use mathlib.Core.Path.{_≡_, refl, sym, ap, _∙_}
-use mathlib.Core.Bool.{Bool}
+use mathlib.Core.Path.{refl, sym, ap, _∙_}
 use lib.Dec.{eqb}
 use borrow.Author.Needs.{needs}
 use Rattle.lists.proofs.Loops.{all-count}
 use Rattle.rules.specs.Table.{held, isDone}
 use Rattle.rules.specs.Events.{endIfDone}
 use Rattle.passes.specs.Census.{censusOf}
-use Rattle.lists.specs.Lists.{all}
 use Rattle.endings.proofs.end_if_done.Statement.{statement}
 use Rattle.endings.proofs.end_if_done.Tie as tie
 

@@ -1,5 +1,4 @@
 -- The ending, and one signal.
-use mathlib.Core.Path.{ap, _∙_}
 use borrow.Author.Needs.{needs}
 use Rattle.endings.proofs.end_with.Statement.{statement}
 use Rattle.endings.proofs.end_with.Tie as tie

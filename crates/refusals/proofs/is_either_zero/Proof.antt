@@ -1,5 +1,5 @@
 -- Two tests decide.
-use mathlib.Core.Path.{sym, ap, _∙_}
+use mathlib.Core.Path.{sym, _∙_}
 use borrow.Author.Needs.{needs}
 use Rattle.refusals.proofs.is_either_zero.Statement.{statement}
 use Rattle.refusals.proofs.is_either_zero.Tie as tie

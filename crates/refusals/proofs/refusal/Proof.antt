@@ -1,5 +1,5 @@
 -- The first two checks, and then those of the event.
-use mathlib.Core.Path.{sym, ap, _∙_}
+use mathlib.Core.Path.{sym, _∙_}
 use borrow.Author.Needs.{needs}
 use borrow.Author.Tests.{ne-eqb}
 use Rattle.rules.specs.Refusals.{firstOf, checksOf, refusalOf}

@@ -1,7 +1,6 @@
 -- Refused or done, as the definition says.
 use mathlib.Core.Path.{sym, ap, _∙_}
 use borrow.Author.Needs.{needs}
-use Rattle.rules.specs.Step.{answerOf}
 use Rattle.rules.proofs.Refused.{step-done, step-refused}
 use Rattle.step.proofs.step.Statement.{statement}
 use Rattle.step.proofs.step.Tie as tie
