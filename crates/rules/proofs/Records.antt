@@ -31,7 +31,7 @@ pub data Valid : Record → Type 0 where
 entry-length : (e : Entry) → length (e .rm) ≡ identifierSize → length (entryBytes e) ≡ entrySize
 entry-length e h = rw (length-append (e .rm) (low4 (e .number)), h)
 
-entries-length : (es : List Entry) → Each (λ e. length (e .rm) ≡ identifierSize) es → length (entriesBytes es) ≡ entrySize * length es
+pub entries-length : (es : List Entry) → Each (λ e. length (e .rm) ≡ identifierSize) es → length (entriesBytes es) ≡ entrySize * length es
 unfolding entriesBytes
 entries-length [] v = refl
 entries-length (e ∷ es) v = rw (length-append (entryBytes e) (entriesBytes es), entry-length e (each-head v), entries-length es (each-rest v)) (omega arith)

@@ -26,3 +26,5 @@ pub mod Dispenser
 pub mod Messages
 -- Listing
 pub mod Listing
+-- The trace program
+pub mod Trace

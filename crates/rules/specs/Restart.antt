@@ -114,6 +114,7 @@ pub record Restart : Type 0 where
 abbrev pub refusedRestart : ℕ → List ℕ → Restart
 refusedRestart why log = record { refusal = why; table = zeroTable; log = log }
 
+-- "The host then trims the stored log to used": the used length of this table is where
 abbrev pub doneRestart : Table → List ℕ → Restart
 doneRestart tb log = record { refusal = refusal.accepted; table = tb; log = log }
 

@@ -1,5 +1,7 @@
 -- Signals: whom they go to, and in which order.
 use Prim.Native.Nat.{ℕ, zero, suc}
+use mathlib.Core.Path.{_≡_}
+use mathlib.Core.Logic.{_⊎_}
 use mathlib.Core.Bool.{Bool}
 use mathlib.Core.List.{List, [], _∷_, map}
 use lib.Dec.{ltb}
@@ -25,6 +27,13 @@ toEach a es = map (λ e. signal a (e .number)) (sortBy byNumber es)
 -- to the application; "number 0 for app"
 abbrev pub toApp : Name → List Signal
 toApp a = signal a 0 ∷ []
+
+-- "Committed messages are commit, app-committed and answer-committed; aborted ones are abort, app-aborted and answer-aborted."
+abbrev pub Committed : Name → Type 0
+Committed a = (a ≡ name.Commit) ⊎ ((a ≡ name.AppCommitted) ⊎ (a ≡ name.AnswerCommitted))
+
+abbrev pub Aborted : Name → Type 0
+Aborted a = (a ≡ name.Abort) ⊎ ((a ≡ name.AppAborted) ⊎ (a ≡ name.AnswerAborted))
 
 abbrev pub noSignal : Signal
 noSignal = signal name.Nothing 0

@@ -201,3 +201,16 @@ pub struct Written {
     pub refusal: u8,
     pub length: usize,
 }
+
+// ---- A line of the trace program. The event is all zeros, with Begin, where the order is not Step.
+
+pub enum Order {
+    Unreadable,
+    Restart,
+    Step,
+}
+
+pub struct Command {
+    pub order: Order,
+    pub event: Event,
+}

@@ -1,0 +1,195 @@
+-- The parts that steps are made of, each about the transaction at one place p: what is asked of it before, and that it is as it may be after.
+use Prim.Native.Nat.{ℕ, _+_, _*_, _≤_, _<_}
+use native.Mathlib.Omega.{arith}
+use mathlib.Core.Path.{_≡_, refl, sym, _∙_, ap, subst}
+use mathlib.Core.Logic.{_⊎_, inl, inr}
+use mathlib.Core.Bool.{true, false, not}
+use mathlib.Core.List.{List}
+use lib.ListN.{length}
+use borrow.Author.Tests.{eqb-true, eqb-false, lt-ltb, le-leb}
+use Rattle.lists.specs.Lists.{all}
+use Rattle.lists.specs.Members.{Each, Some}
+use Rattle.lists.proofs.Tests.{by-test, by-either, no-clash, and-true, true-and, not-true, any-some, not-all}
+use Rattle.lists.proofs.Places.{IsPlace}
+use Rattle.rules.specs.declared.Enlistment.{Enlistment}
+use Rattle.rules.specs.declared.Table.{Table}
+use Rattle.rules.specs.Sizes.{recordSize, identifierSize}
+use Rattle.rules.specs.TransactionState as transaction
+use Rattle.rules.specs.EnlistmentState as enlistment
+use Rattle.rules.specs.Identifiers.{Id}
+use Rattle.rules.specs.Table.{noTransaction, isIn, isDone, held, transactionAt, stateAt, idAt, inTransactionState, freed, ended, changeHeld, goTo, emptied, useMore}
+use Rattle.rules.specs.Sound.{isOpen, openCount, In, HoldsWell, Live}
+use Rattle.rules.specs.Log.{Record, recordBytes}
+use Rattle.rules.specs.Events.{append, endOf, endIfDone, hearsAbort, abortedOf, abortOf, committing}
+use Rattle.rules.proofs.Frames.{held-transaction, at-own}
+use Rattle.rules.proofs.Kept.{Kept, stays, moves, kept-state, kept-use, live-place, live-some}
+use Rattle.rules.proofs.Only.{Only, only-same, only-then, Keeps, only-held, kept-held, only-transaction, only-use, at-emptied-place, at-changed, used-held, used-transaction, open-use, each-changed, only-emptied, kept-emptied, openAt, open-changes, Room, room-kept}
+
+-- What a part of a step gives.
+pub record Part (p : ℕ) (tb tb′ : Table) : Type 0 where
+  pub only : Only p tb tb′
+  pub kept : Kept tb′
+  pub well : Live (transactionAt p tb′) → HoldsWell (stateAt p tb′) (held p tb′)
+  pub room : Room tb → Room tb′
+
+pub part-then : {p : ℕ} {a b c : Table} → Only p a b → (Room a → Room b) → Part p b c → Part p a c
+part-then o r h = record { only = only-then o (h .only); kept = h .kept; well = h .well; room = λ q. h .room (r q) }
+
+-- ── the end ─────────────────────────────────────────────────────────────────────────────────────────────────────
+
+forget-length : (t : Id) → length t ≡ identifierSize → length (recordBytes (Record.forget t)) ≡ recordSize
+unfolding recordBytes
+forget-length t e = omega arith
+
+pub id-length : (p : ℕ) (tb : Table) → Kept tb → Live (transactionAt p tb) → length (idAt p tb) ≡ identifierSize
+id-length p tb k l = k .transaction-identifiers (transactionAt p tb) (Rattle.lists.proofs.Places.at-member noTransaction (tb .transactions) (live-place p tb l)) l .0
+
+not-open-emptied : (p : ℕ) (tb : Table) → openAt p (emptied p tb) ≡ false
+not-open-emptied p tb = ap (λ x. isOpen (x .state) (held p (emptied p tb))) (at-emptied-place p tb)
+
+used-emptied : (p : ℕ) (tb : Table) → emptied p tb .used ≡ tb .used
+used-emptied p tb = used-transaction p ended (changeHeld p freed tb) ∙ used-held p freed tb
+
+-- at any place
+pub end-at : (p : ℕ) (tb : Table) (log : List ℕ) → Kept tb → IsPlace (tb .transactions) p → Part p tb (endOf p tb log .table)
+unfolding endOf append useMore
+end-at p tb log k i =
+    let n : p ≡ 0 → ⊥ = λ z. omega (arith, z, i .low) in
+    let o : Only p tb (emptied p tb) = only-emptied p tb n in
+    let gone : Live (transactionAt p (emptied p tb)) → ⊥ = λ m. m (ap (λ x. x .state) (at-emptied-place p tb)) in
+    by-test (openAt p tb)
+    (λ t. rw t (record {
+      only = only-then o (only-use p _ (emptied p tb));
+      kept = kept-use _ (kept-emptied p tb n k);
+      well = λ m. absurd (gone m);
+      room = λ r. written-room o t r;
+    }))
+    (λ t. rw t (record {
+      only = o;
+      kept = kept-emptied p tb n k;
+      well = λ m. absurd (gone m);
+      room = room-kept p tb (emptied p tb) o i (used-emptied p tb) (λ c. no-clash _ c (not-open-emptied p tb));
+    }))
+  where
+    open-live : openAt p tb ≡ true → Live (transactionAt p tb)
+    open-live t z = omega (arith, z, eqb-true (stateAt p tb) transaction.committing (true-and _ _ t .0))
+
+    written-room : Only p tb (emptied p tb) → openAt p tb ≡ true → Room tb → Room (useMore (length (recordBytes (Record.forget (idAt p tb)))) (emptied p tb))
+    written-room o t r =
+        let c : openCount (emptied p tb) + 1 ≡ openCount tb + 0 = rw (t, not-open-emptied p tb) at (open-changes p tb (emptied p tb) o i) in
+        omega (arith, r, c, o .same-capacity, used-emptied p tb, open-use (length (recordBytes (Record.forget (idAt p tb)))) (emptied p tb), forget-length (idAt p tb) (id-length p tb k (open-live t)))
+
+-- nothing is live there any more
+pub end-over : (p : ℕ) (tb : Table) (log : List ℕ) → transactionAt p (endOf p tb log .table) ≡ noTransaction
+unfolding endOf append useMore
+end-over p tb log = by-test (openAt p tb) (λ t. rw t (at-emptied-place p tb)) (λ t. rw t (at-emptied-place p tb))
+
+pub end-part : (p : ℕ) (tb : Table) (log : List ℕ) → Kept tb → Live (transactionAt p tb) → Part p tb (endOf p tb log .table)
+end-part p tb log k l = end-at p tb log k (live-place p tb l)
+
+pub some-undone : (hs : List Enlistment) → all isDone hs ≡ false → Some (λ e. In enlistment.done e → ⊥) hs
+some-undone hs t =
+    let s = any-some (λ e. not (isDone e)) hs (sym (not-all isDone hs) ∙ rw t) in
+    record { it = s .it; there = s .there; holds = eqb-false _ _ (not-true _ (s .holds)) }
+
+pub end-if-done-part : (p : ℕ) (tb : Table) (log : List ℕ) → Kept tb → Live (transactionAt p tb)
+    → (Some (λ e. In enlistment.done e → ⊥) (held p tb) → HoldsWell (stateAt p tb) (held p tb)) → Part p tb (endIfDone p tb log .table)
+unfolding endIfDone
+end-if-done-part p tb log k l h = by-test (all isDone (held p tb))
+    (λ t. rw t (end-part p tb log k l))
+    (λ t. rw t (record { only = only-same p tb; kept = k; well = λ m. h (some-undone (held p tb) t); room = λ r. r }))
+
+-- ── another state of the transaction, and of what it holds ──────────────────────────────────────────────────────
+
+abbrev pub moved : ℕ → ℕ → (Enlistment → Enlistment) → Table → Table
+moved p s f tb = goTo p s (changeHeld p f tb)
+
+module _ (p s : ℕ) (f : Enlistment → Enlistment) (tb : Table) (k : Kept tb) (l : Live (transactionAt p tb)) (keeps : Keeps f) where
+  live-changed : Live (transactionAt p (changeHeld p f tb))
+  live-changed = rw (at-changed p p f tb) l
+
+  pub only-moved : Only p tb (moved p s f tb)
+  only-moved = only-then (only-held p f tb (live-some p tb l) keeps) (only-transaction p (inTransactionState s) (changeHeld p f tb))
+
+  pub kept-moved : (s ≡ 0 → ⊥) → Kept (moved p s f tb)
+  kept-moved n = kept-state p s n (kept-held p f tb (live-some p tb l) keeps k) live-changed
+
+  pub state-moved : stateAt p (moved p s f tb) ≡ s
+  state-moved = ap (λ x. x .state) (at-own p (inTransactionState s) (changeHeld p f tb) (live-place p (changeHeld p f tb) live-changed))
+
+  pub live-moved : (s ≡ 0 → ⊥) → Live (transactionAt p (moved p s f tb))
+  live-moved n e = n (sym state-moved ∙ e)
+
+  pub held-moved : held p (moved p s f tb) ≡ held p (changeHeld p f tb)
+  held-moved = held-transaction p p (inTransactionState s) (changeHeld p f tb)
+
+  open-moved : openAt p (moved p s f tb) ≡ isOpen s (held p (changeHeld p f tb))
+  open-moved = ap (λ z. isOpen z (held p (moved p s f tb))) state-moved ∙ ap (λ hs. isOpen s hs) held-moved
+
+  used-moved : moved p s f tb .used ≡ tb .used
+  used-moved = used-transaction p (inTransactionState s) (changeHeld p f tb) ∙ used-held p f tb
+
+  pub well-moved : HoldsWell s (held p (changeHeld p f tb)) → HoldsWell (stateAt p (moved p s f tb)) (held p (moved p s f tb))
+  well-moved w = subst (λ z. HoldsWell z (held p (moved p s f tb))) (sym state-moved) (subst (HoldsWell s) (sym held-moved) w)
+
+  pub room-moved : isOpen s (held p (changeHeld p f tb)) ≡ false → Room tb → Room (moved p s f tb)
+  room-moved c = room-kept p tb (moved p s f tb) only-moved (live-place p tb l) used-moved (λ t. no-clash _ t (open-moved ∙ c))
+
+  -- without a record
+  pub moved-part : (s ≡ 0 → ⊥) → isOpen s (held p (changeHeld p f tb)) ≡ false → HoldsWell s (held p (changeHeld p f tb)) → Part p tb (moved p s f tb)
+  moved-part n c w = record { only = only-moved; kept = kept-moved n; well = λ m. well-moved w; room = room-moved c }
+
+  -- with one, of n bytes
+  pub written-part : (n : ℕ) → (s ≡ 0 → ⊥) → tb .used + n + recordSize * (1 + openCount tb) ≤ tb .capacity → HoldsWell s (held p (changeHeld p f tb)) → Part p tb (useMore n (moved p s f tb))
+  unfolding useMore held
+  written-part n z fits w = record {
+    only = only-then only-moved (only-use p n (moved p s f tb));
+    kept = kept-use n (kept-moved z);
+    well = λ m. well-moved w;
+    room = λ r. more-room;
+  }
+    where
+      at-most : openCount (moved p s f tb) ≤ openCount tb + 1
+      at-most = by-test (openAt p (moved p s f tb))
+          (λ t. omega (arith, rw t at (open-changes p tb (moved p s f tb) only-moved (live-place p tb l))))
+          (λ t. omega (arith, rw t at (open-changes p tb (moved p s f tb) only-moved (live-place p tb l))))
+
+      more-room : Room (useMore n (moved p s f tb))
+      more-room = omega (arith, fits, at-most, used-moved, only-moved .same-capacity, open-use n (moved p s f tb))
+
+-- ── Abort ───────────────────────────────────────────────────────────────────────────────────────────────────────
+
+-- what an abort can meet
+abbrev pub Abortable : Enlistment → Type 0
+Abortable e = ((0 < e .state) × (e .state ≤ enlistment.prepared)) ⊎ (In enlistment.preparedLost e ⊎ In enlistment.done e)
+
+aborts : Keeps abortedOf
+unfolding abortedOf
+aborts e h = by-test (hearsAbort e)
+    (λ t. rw t (moves h _ refl))
+    (λ t. rw t (by-test (isIn enlistment.preparedLost e) (λ c. rw c (moves h _ refl)) (λ c. rw c (stays refl))))
+
+aborted-state : (e : Enlistment) → Abortable e → In enlistment.toldAbort (abortedOf e) ⊎ In enlistment.done (abortedOf e)
+unfolding abortedOf
+aborted-state e (inl h) = rw (and-true (lt-ltb 0 (e .state) (h .0)) (le-leb (e .state) enlistment.prepared (h .1))) (inl refl)
+aborted-state e (inr h) = by-test (hearsAbort e)
+    (λ t. rw t (inl refl))
+    (λ t. rw t (by-test (isIn enlistment.preparedLost e)
+    (λ c. rw c (inr refl))
+    (λ c. rw c (by-either (λ q. absurd (eqb-false (e .state) enlistment.preparedLost c q)) (λ q. inr q) h))))
+
+pub abort-part : (p : ℕ) (tb : Table) (log : List ℕ) → Kept tb → Live (transactionAt p tb) → Each Abortable (held p tb) → Part p tb (abortOf p tb log .table)
+unfolding abortOf
+abort-part p tb log k l h =
+    part-then (only-moved p transaction.aborting abortedOf tb k l aborts) (room-moved p transaction.aborting abortedOf tb k l aborts refl)
+    (end-if-done-part p (moved p transaction.aborting abortedOf tb) log
+    (kept-moved p transaction.aborting abortedOf tb k l aborts (λ z. omega arith))
+    (live-moved p transaction.aborting abortedOf tb k l aborts (λ z. omega arith))
+    (λ s. well-moved p transaction.aborting abortedOf tb k l aborts
+    (HoldsWell.aborting refl each (told (subst (Some (λ e. In enlistment.done e → ⊥)) (held-moved p transaction.aborting abortedOf tb k l aborts) s)))))
+  where
+    each : Each (λ e. In enlistment.toldAbort e ⊎ In enlistment.done e) (held p (changeHeld p abortedOf tb))
+    each = each-changed p abortedOf tb (λ e. In enlistment.toldAbort e ⊎ In enlistment.done e) (λ e m c. aborted-state e (h e m))
+
+    told : Some (λ e. In enlistment.done e → ⊥) (held p (changeHeld p abortedOf tb)) → Some (In enlistment.toldAbort) (held p (changeHeld p abortedOf tb))
+    told s = record { it = s .it; there = s .there; holds = by-either (λ q. q) (λ q. absurd (s .holds q)) (each (s .it) (s .there)) }

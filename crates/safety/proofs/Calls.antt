@@ -1,0 +1,319 @@
+-- The events that name a transaction: what Begin, Enlist, Commit, Rollback and Ask are to it.
+use Prim.Native.Nat.{ℕ}
+use native.Mathlib.Omega.{arith}
+use mathlib.Core.Path.{_≡_, refl, sym, _∙_, ap}
+use mathlib.Core.Logic.{_⊎_, inl, inr}
+use mathlib.Core.Bool.{Bool, true, false, cond, _&&_}
+use mathlib.Core.List.{List, [], _∷_, _++_, map, append-nil}
+use lib.ListN.{take}
+use lib.Dec.{eqb}
+use borrow.Author.Tests.{eqb-true, eqb-false, ne-eqb}
+use Rattle.lists.specs.Members.{_∈_, Some}
+use Rattle.lists.specs.Lists.{any, filter, firstOr}
+use Rattle.lists.specs.Places.{placeOf, putLowest}
+use Rattle.lists.proofs.Tests.{by-test, by-either, no-clash, is-false, true-or, first-passes, first-none, each-nothing}
+use Rattle.lists.proofs.Places.{place-first, put-is, put-there, put-keeps, filter-put}
+use Rattle.rules.specs.declared.Transaction.{Transaction}
+use Rattle.rules.specs.declared.Enlistment.{Enlistment}
+use Rattle.rules.specs.declared.Table.{Table}
+use Rattle.rules.specs.declared.TxId.{TxId}
+use Rattle.rules.specs.declared.RmId.{RmId}
+use Rattle.rules.specs.declared.Event.{Event}
+use Rattle.rules.specs.declared.Signal.{Signal}
+use Rattle.rules.specs.declared.Act.{Act}
+use Rattle.rules.specs.declared.Act.the-variants as act
+use Rattle.rules.specs.declared.Kind.{Kind}
+use Rattle.rules.specs.declared.Mark.{Mark}
+use Rattle.rules.specs.declared.Name.{Name}
+use Rattle.rules.specs.declared.Name.the-variants as name
+use Rattle.rules.specs.TransactionState as transaction
+use Rattle.rules.specs.EnlistmentState as enlistment
+use Rattle.rules.specs.Identifiers.{Id}
+use Rattle.rules.specs.Table.{noTransaction, noEnlistment, isLive, isFree, isNamed, placeNamed, transactionAt, stateAt, isVacant, heldBy, held, isPhaseZero, isIn, inState, withTransactions, withEnlistments, changeHeld, changeTransaction, goTo}
+use Rattle.rules.specs.Sound.{Sound, Durable}
+use Rattle.rules.specs.Log.{allBytes}
+use Rattle.rules.specs.Signals.{signal, toEach}
+use Rattle.rules.specs.Events.{quietly, saying, abortOf, beginOf, kindOf, zeroAtOnce, newEnlistment, enlistOf, zeroedOf, commitOf, isUndone, isOver, toldAgain, askOf}
+use Rattle.rules.proofs.Identifiers.{same-refl}
+use Rattle.rules.proofs.Records.{Valid}
+use Rattle.rules.proofs.Frames.{Keeps, of-held, in-held, held-came, held-own, held-transaction, named-is, named-other, named-found, none-absent, Stands, Absent, at-own, at-other, place-kept}
+use Rattle.safety.specs.World.{Note, told, messageOf}
+use Rattle.safety.specs.Host.{Prepares, MayAsk}
+use Rattle.safety.specs.Demand3.{Committed, Votes}
+use Rattle.safety.proofs.Alone as alone
+use Rattle.safety.proofs.Alone.{Story, early, Waits, Unasked}
+use Rattle.safety.proofs.Move.{d-early, d-aborting, g-aborting, Move, stay, begin, gather, abort, told-on, answer-out}
+use Rattle.safety.proofs.Top.{Agrees}
+use Rattle.safety.proofs.Story.{story}
+use Rattle.safety.proofs.View.{viewOf, look, view-stands, view-absent, view-same, view-goes, goes-other, view-changes, view-held-other, state-none}
+use Rattle.safety.proofs.Given.{stands-sound, owner-held}
+use Rattle.safety.proofs.Messages.{notCommitted, notAborted, Only, only-nothing, only-one, only-each, Addressed, Owned, addressed-nothing, addressed-one, addressed-neutral, none-committed, none-aborted, quiet}
+use Rattle.safety.proofs.Own.{by-cases, Own, unlogged, used-goes, own-abort, own-start}
+use Rattle.safety.proofs.Reactions.{nothing-calm, untouched}
+
+-- a change of the transaction at p is none of one that stands elsewhere
+view-transaction-other : (u : Id) (p : ℕ) (f : Transaction → Transaction) (tb : Table) → isNamed u (transactionAt p tb) ≡ false → isNamed u (f (transactionAt p tb)) ≡ false → viewOf u (changeTransaction p f tb) ≡ viewOf u tb
+view-transaction-other u p f tb b a = view-same u tb (changeTransaction p f tb) (place-kept p f tb u b a)
+    (λ n. (ap (λ (x : Transaction). x .state) (at-other p f tb (placeNamed u tb) (λ e. no-clash _ (ap (λ q. isNamed u (transactionAt q tb)) (sym e) ∙ named-found u tb n) b)), held-transaction p (placeNamed u tb) f tb))
+
+module _ (tb : Table) (log : List ℕ) (s : Sound tb) (x : TxId) (y : RmId) where
+  abbrev pub t : Id
+  t = x .0
+
+  abbrev pub r : Id
+  r = y .0
+
+  abbrev pub p : ℕ
+  p = placeNamed t tb
+
+  abbrev hs : List Enlistment
+  hs = held p tb
+
+  abbrev pub event : Act → Event
+  event a = record { tx = x; rm = y; act = a }
+
+  view-here : (k : ℕ) → stateAt p tb ≡ k → viewOf t tb ≡ look k hs
+  unfolding viewOf
+  view-here k q = ap (λ k. look k hs) q
+
+  nothing-written : take (tb .used) log ≡ take (tb .used) log ++ allBytes []
+  unfolding allBytes
+  nothing-written = sym (append-nil (take (tb .used) log))
+
+  -- ── Begin ─────────────────────────────────────────────────────────────────────────────────────────────────────
+
+  module _ (dead : p ≡ 0) (room : any isFree (tb .transactions) ≡ true) where
+    new : Transaction
+    new = record { id = x; state = transaction.active }
+
+    abbrev q : ℕ
+    q = placeOf isFree (tb .transactions)
+
+    begun : Table
+    begun = changeTransaction q (λ w. new) tb
+
+    begin-is : beginOf t tb log ≡ quietly begun log
+    unfolding beginOf new begun changeTransaction
+    begin-is = ap (λ xs. quietly (withTransactions xs tb) log) (put-is isFree new (tb .transactions))
+
+    nobody : (u : Id) → isNamed u (transactionAt q tb) ≡ false
+    nobody u = is-false (isNamed u (transactionAt q tb)) (λ e. no-clash (isLive (transactionAt q tb)) (named-is u (transactionAt q tb) e .0) (rw (place-first isFree noTransaction (tb .transactions) room .passes) refl))
+
+    absent : Absent t tb
+    absent = none-absent t tb dead
+
+    stands-at : transactionAt q begun ≡ new
+    unfolding begun
+    stands-at = at-own q (λ w. new) tb (place-first isFree noTransaction (tb .transactions) room .is-place)
+
+    at : Stands t q begun
+    unfolding begun new
+    at = record { here = rw stands-at (same-refl t); alone = λ w e. by-test (eqb w q) (λ c. eqb-true w q c) (λ c. no-clash (isNamed t (transactionAt w tb)) (ap (isNamed t) (sym (at-other q (λ w. new) tb w (eqb-false w q c))) ∙ e) (absent .nowhere w)) }
+
+    used-begun : begun .used ≡ tb .used
+    unfolding begun changeTransaction
+    used-begun = refl
+
+    begun-other : (u : Id) → (u ≡ t → ⊥) → viewOf u begun ≡ viewOf u tb
+    unfolding begun new
+    begun-other u d = view-transaction-other u q (λ w. new) tb (nobody u) (is-false (isNamed u new) (λ e. d (sym (named-is u new e .1))))
+
+    begun-view : viewOf t begun ≡ early (held q begun)
+    unfolding new
+    begun-view = view-stands t q begun at ∙ ap (λ (w : Transaction). look (w .state) (held q begun)) stands-at
+
+    own-begun : Own tb (event act.Begin) log t (quietly begun log)
+    unfolding story told
+    own-begun = record {
+      records = [];
+      valid = each-nothing Valid;
+      bytes = rw used-begun nothing-written;
+      other-story = λ u d k. refl;
+      other-view = begun-other;
+      addressed = addressed-nothing tb (event act.Begin);
+      move = λ h made l a. rw (view-absent t tb absent, begun-view) (begin refl made refl (quiet t tb (event act.Begin) [] (only-nothing notCommitted) (only-nothing notAborted)));
+    }
+
+    pub own-begin : Own tb (event act.Begin) log t (beginOf t tb log)
+    own-begin = rw begin-is own-begun
+
+  -- ── Commit, Rollback ──────────────────────────────────────────────────────────────────────────────────────────
+
+  module _ (nz : p ≡ 0 → ⊥) where
+    at-p : Stands t p tb
+    at-p = stands-sound tb s t p (named-found t tb nz)
+
+    zeroed-kept : (P : Enlistment → Type 0) → ((e : Enlistment) → P e → P (inState enlistment.zero e)) → (e : Enlistment) → P e → P (zeroedOf e) × (zeroedOf e .holder ≡ e .holder)
+    zeroed-kept P f e q = by-cases (λ (w : Enlistment). P w × (w .holder ≡ e .holder)) (isPhaseZero e) (inState enlistment.zero e) e (λ _. (f e q, refl)) (λ _. (q, refl))
+
+    zeroed-keeps : Keeps zeroedOf
+    zeroed-keeps e = by-cases (λ (w : Enlistment). (w .holder ≡ e .holder) ⊎ (w .holder ≡ 0)) (isPhaseZero e) (inState enlistment.zero e) e (λ _. inl refl) (λ _. inl refl)
+
+    pub own-commit : stateAt p tb ≡ transaction.active → Own tb (event act.Commit) log t (commitOf p tb log)
+    unfolding commitOf told
+    own-commit st = by-cases (Own tb ev log t) (any isPhaseZero hs) _ _
+        (λ _. unlogged tb ev log t p tb (untouched tb s t p at-p) refl tb₂ ss (addressed-neutral tb ev ss (only-each notCommitted name.Zero zs refl) (only-each notAborted name.Zero zs refl)) (used-goes p transaction.phaseZero zeroedOf tb) (λ u d. goes-other t p tb at-p transaction.phaseZero zeroedOf u zeroed-keeps d)
+        (λ h made l a. rw (view-here transaction.active st, view-goes t p tb at-p transaction.phaseZero zeroedOf (λ q. omega arith))
+        (gather refl (nothing-calm t .not-prepared) (quiet t tb ev ss (only-each notCommitted name.Zero zs refl) (only-each notAborted name.Zero zs refl))
+        (λ m w. held-own (Unasked m) (Unasked m) p zeroedOf tb (λ e _ q. zeroed-kept (Unasked m) (λ e q. q) e q) w)
+        (λ m r k q w. absurd (nothing-calm t .not-enlisted m r k q)))))
+        (λ _. own-start tb ev log t p tb (untouched tb s t p at-p) refl hs (view-here transaction.active st) (nothing-calm t) (λ m w. w) (λ c. omega (arith, c, st)))
+      where
+        ev : Event
+        ev = event act.Commit
+
+        tb₂ : Table
+        tb₂ = goTo p transaction.phaseZero (changeHeld p zeroedOf tb)
+
+        zs : List Enlistment
+        zs = filter isPhaseZero hs
+
+        ss : List Signal
+        ss = toEach name.Zero zs
+
+    is-early : (stateAt p tb ≡ transaction.active) ⊎ (stateAt p tb ≡ transaction.phaseZero) → viewOf t tb ≡ early hs
+    is-early (inl q) = view-here transaction.active q
+    is-early (inr q) = view-here transaction.phaseZero q
+
+    pub own-rollback : (stateAt p tb ≡ transaction.active) ⊎ (stateAt p tb ≡ transaction.phaseZero) → Own tb (event act.Rollback) log t (abortOf p tb log)
+    own-rollback st = own-abort tb (event act.Rollback) log t p tb (untouched tb s t p at-p) refl (rw (is-early st) d-early)
+
+    -- ── Enlist ──────────────────────────────────────────────────────────────────────────────────────────────────
+
+    module _ (n : ℕ) (k : Kind) (m : Mark) (st : (stateAt p tb ≡ transaction.active) ⊎ (stateAt p tb ≡ transaction.phaseZero)) (room : any isVacant (tb .enlistments) ≡ true) where
+      joined : Enlistment
+      joined = newEnlistment p (stateAt p tb) n r k m
+
+      enlisted : Table
+      enlisted = withEnlistments (putLowest isVacant joined (tb .enlistments)) tb
+
+      joined-is : (joined .holder ≡ p) × (joined .number ≡ n) × (joined .kind ≡ kindOf k)
+      unfolding joined newEnlistment
+      joined-is = (refl, refl, refl)
+
+      enlist-is : enlistOf p n r k m tb log ≡ saying (cond (zeroAtOnce k (stateAt p tb)) (signal name.Zero n ∷ []) []) (quietly enlisted log)
+      unfolding enlistOf enlisted joined
+      enlist-is = refl
+
+      held-elsewhere : (q : ℕ) → (q ≡ p → ⊥) → (q ≡ 0 → ⊥) → held q enlisted ≡ held q tb
+      unfolding held enlisted
+      held-elsewhere q d z = filter-put isVacant joined (heldBy q) (tb .enlistments) (ne-eqb (joined .holder) q (λ e. d (sym e ∙ joined-is .0))) (λ w i e. ne-eqb (w .holder) q (λ c. z (sym c ∙ eqb-true (w .holder) 0 e)))
+
+      enlisted-other : (u : Id) → (u ≡ t → ⊥) → viewOf u enlisted ≡ viewOf u tb
+      unfolding enlisted
+      enlisted-other u d = view-same u tb enlisted refl (λ w. (refl, held-elsewhere (placeNamed u tb) (λ e. d (sym (named-is u (transactionAt (placeNamed u tb) tb) (named-found u tb w) .1) ∙ ap (λ q. transactionAt q tb .id .0) e ∙ named-is t (transactionAt p tb) (at-p .here) .1)) w))
+
+      enlisted-view : viewOf t enlisted ≡ early (held p enlisted)
+      unfolding viewOf enlisted
+      enlisted-view = by-either (λ q. rw q refl) (λ q. rw q refl) st
+
+      enlisted-keeps : (P : Enlistment → Type 0) → Some P hs → Some P (held p enlisted)
+      unfolding enlisted
+      enlisted-keeps P h = record { it = h .it; holds = h .holds; there = in-held p enlisted (put-keeps isVacant joined (tb .enlistments) (of-held p tb (h .there) .0) (ne-eqb (h .it .holder) 0 (λ z. nz (sym (of-held p tb (h .there) .1) ∙ z)))) (of-held p tb (h .there) .1) }
+
+      enlisted-new : joined ∈ held p enlisted
+      unfolding enlisted
+      enlisted-new = in-held p enlisted (put-there isVacant joined (tb .enlistments) room) (joined-is .0)
+
+      abbrev pub ev : Event
+      ev = event (act.Enlist n k m)
+
+      abbrev ss : List Signal
+      ss = cond (zeroAtOnce k (stateAt p tb)) (signal name.Zero n ∷ []) []
+
+      only-zero : (f : Name → Bool) → f name.Zero ≡ true → Only f ss
+      only-zero f q = by-cases (Only f) (zeroAtOnce k (stateAt p tb)) (signal name.Zero n ∷ []) [] (λ _. only-one f name.Zero n q) (λ _. only-nothing f)
+
+      not-prepared : (q : Id) → Prepares t q (Note.enlisted t n r (kindOf k)) → ⊥
+      not-prepared q (j, w) = let z : _≡_ {A = ℕ} 0 1 = cc in omega arith
+
+      is-new : (j : ℕ) (q : Id) (i : ℕ) → Note.enlisted t n r (kindOf k) ≡ Note.enlisted t j q i → Votes i → Some (Unasked j) (held p enlisted)
+      is-new j q i w v = record { it = joined; there = enlisted-new; holds = (joined-is .1 ∙ number j q i w, rw (joined-is .2 ∙ kinds j q i w) v) }
+        where
+          number : (j : ℕ) (q : Id) (i : ℕ) → Note.enlisted t n r (kindOf k) ≡ Note.enlisted t j q i → n ≡ j
+          number j q i w = cc
+
+          kinds : (j : ℕ) (q : Id) (i : ℕ) → Note.enlisted t n r (kindOf k) ≡ Note.enlisted t j q i → kindOf k ≡ i
+          kinds j q i w = cc
+
+      used-enlisted : enlisted .used ≡ tb .used
+      unfolding enlisted
+      used-enlisted = refl
+
+      own-enlisted : Own tb ev log t (saying ss (quietly enlisted log))
+      unfolding story told
+      own-enlisted = record {
+        records = [];
+        valid = each-nothing Valid;
+        bytes = rw used-enlisted nothing-written;
+        other-story = λ u d q. refl;
+        other-view = enlisted-other;
+        addressed = addressed-neutral tb ev ss (only-zero notCommitted refl) (only-zero notAborted refl);
+        move = λ h made l a. rw (is-early st, enlisted-view) (gather refl not-prepared (quiet t tb ev ss (only-zero notCommitted refl) (only-zero notAborted refl)) (λ j w. enlisted-keeps (Unasked j) w) is-new);
+      }
+
+      pub own-enlist : Own tb ev log t (enlistOf p n r k m tb log)
+      own-enlist = rw enlist-is own-enlisted
+
+  -- ── Ask ───────────────────────────────────────────────────────────────────────────────────────────────────────
+
+  abbrev pub ask : Event
+  ask = event act.Ask
+
+  only-answered : (ss : List Signal) → Addressed tb ask ss
+      → ((h : List Note) → MayAsk t r h → (l : Story) → Agrees (viewOf t tb) l → Move t h Note.nothing (map (messageOf tb ask) ss) l l (viewOf t tb) (viewOf t tb))
+      → Own tb ask log t (saying ss (quietly tb log))
+  unfolding story told
+  only-answered ss ad mv = record { records = []; valid = each-nothing Valid; bytes = nothing-written; other-story = λ u d q. refl; other-view = λ u d. refl; addressed = ad; move = mv }
+
+  again-kept : (e : Enlistment) → (toldAgain r e .holder ≡ e .holder) × (toldAgain r e .kind ≡ e .kind)
+  again-kept e = by-cases (λ (w : Enlistment). (w .holder ≡ e .holder) × (w .kind ≡ e .kind)) (isUndone r e && isIn enlistment.failedToNotify e) (inState enlistment.toldCommit e) e (λ _. (refl, refl)) (λ _. (refl, refl))
+
+  again-waits : (q : Id) (e : Enlistment) → Waits q e → Waits q (toldAgain r e)
+  again-waits q e w = by-cases (Waits q) (isUndone r e && isIn enlistment.failedToNotify e) (inState enlistment.toldCommit e) e (λ _. (w .0, w .1, inl refl)) (λ _. w)
+
+  abbrev answered : ℕ
+  answered = firstOr noEnlistment (isUndone r) hs .number
+
+  answered-owned : (p ≡ 0 → ⊥) → Owned tb t answered
+  answered-owned nz = by-test (any (isUndone r) hs)
+      (λ q. inr (owner-held tb s t p (at-p nz) (first-passes noEnlistment (isUndone r) hs q .0) .1))
+      (λ q. inl (ap (λ (e : Enlistment). e .number) (first-none noEnlistment (isUndone r) hs q)))
+
+  same-used : changeHeld p (toldAgain r) tb .used ≡ tb .used
+  unfolding changeHeld
+  same-used = refl
+
+  ask-committing : stateAt p tb ≡ transaction.committing → (p ≡ 0 → ⊥) → Own tb ask log t (saying (signal name.AnswerCommitted answered ∷ []) (quietly (changeHeld p (toldAgain r) tb) log))
+  unfolding told
+  ask-committing st nz = unlogged tb ask log t p tb (untouched tb s t p (at-p nz)) refl (changeHeld p (toldAgain r) tb) (signal name.AnswerCommitted answered ∷ []) (addressed-one tb ask name.AnswerCommitted answered (answered-owned nz)) same-used
+      (λ u d. view-held-other u p (toldAgain r) tb (λ e. inl (again-kept e .0)) (named-other t u (transactionAt p tb) (at-p nz .here) d))
+      (λ h made l a. rw (view-here transaction.committing st, view-changes t p tb (at-p nz) (toldAgain r) ∙ ap (λ k. look k (held p (changeHeld p (toldAgain r) tb))) st)
+      (told-on refl (nothing-calm t) (none-aborted t tb ask (signal name.AnswerCommitted answered ∷ []) (only-one notAborted name.AnswerCommitted answered refl))
+      (λ q w. inl (held-own (Waits q) (Waits q) p (toldAgain r) tb (λ e _ v. (again-waits q e v, again-kept e .0)) w))
+      (λ w. held-own Durable Durable p (toldAgain r) tb (λ e _ v. (again-kept e .1 ∙ v, again-kept e .0)) w)
+      (λ nd e m d. let c : Some (λ w. e ≡ toldAgain r w) hs = held-came p (toldAgain r) tb m in nd (c .it) (c .there) (sym (again-kept (c .it) .1) ∙ sym (ap (λ (w : Enlistment). w .kind) (c .holds)) ∙ d))))
+
+  ask-over : (stateAt p tb ≡ 0) ⊎ (stateAt p tb ≡ transaction.aborting) → Own tb ask log t (saying (signal name.AnswerAborted 0 ∷ []) (quietly tb log))
+  ask-over w = only-answered (signal name.AnswerAborted 0 ∷ []) (addressed-one tb ask name.AnswerAborted 0 (inl refl)) (λ h may l a. by-either
+      (λ q. rw (view-here 0 q) (answer-out r refl may (nothing-calm t) silent))
+      (λ q. rw (view-here transaction.aborting q) (abort refl d-aborting g-aborting silent)) w)
+    where
+      silent : alone.New t Committed (map (messageOf tb ask) (signal name.AnswerAborted 0 ∷ [])) → ⊥
+      silent = none-committed t tb ask (signal name.AnswerAborted 0 ∷ []) (only-one notCommitted name.AnswerAborted 0 refl)
+
+  ask-not-yet : Own tb ask log t (saying (signal name.AnswerNotYet answered ∷ []) (quietly tb log))
+  ask-not-yet = only-answered ss (addressed-neutral tb ask ss (only-one notCommitted name.AnswerNotYet answered refl) (only-one notAborted name.AnswerNotYet answered refl))
+      (λ h may l a. stay refl (nothing-calm t) (quiet t tb ask ss (only-one notCommitted name.AnswerNotYet answered refl) (only-one notAborted name.AnswerNotYet answered refl)))
+    where
+      ss : List Signal
+      ss = signal name.AnswerNotYet answered ∷ []
+
+  pub own-ask : Own tb ask log t (askOf p r tb log)
+  unfolding askOf
+  own-ask = by-cases (Own tb ask log t) (isOver (stateAt p tb)) _ _
+      (λ q. ask-over (by-either (λ w. inl (eqb-true (stateAt p tb) 0 w)) (λ w. inr (eqb-true (stateAt p tb) transaction.aborting w)) (true-or (eqb (stateAt p tb) 0) (eqb (stateAt p tb) transaction.aborting) q)))
+      (λ _. by-cases (Own tb ask log t) (eqb (stateAt p tb) transaction.committing) _ _ (λ q. ask-committing (eqb-true (stateAt p tb) transaction.committing q) (somewhere (eqb-true (stateAt p tb) transaction.committing q))) (λ _. ask-not-yet))
+    where
+      somewhere : stateAt p tb ≡ transaction.committing → p ≡ 0 → ⊥
+      somewhere q z = omega (arith, q, ap (λ k. stateAt k tb) z, state-none tb)

@@ -1,0 +1,160 @@
+-- Storing, leaving and restarting keep what is always true of one transaction.
+use Prim.Native.Nat.{ℕ}
+use native.Mathlib.Omega.{arith}
+use mathlib.Core.Path.{_≡_, refl}
+use mathlib.Core.Logic.{_⊎_, inl, inr, ⊎-elim}
+use mathlib.Core.List.{List, [], _∷_, List·Memᴰ·cases-cons, List·Memᴰ·not-nil}
+use Rattle.lists.specs.Members.{_∈_, Some}
+use Rattle.rules.specs.declared.Enlistment.{Enlistment}
+use Rattle.rules.specs.declared.Name.{Name}
+use Rattle.rules.specs.Identifiers.{Id}
+use Rattle.rules.specs.Sound.{Durable}
+use Rattle.safety.specs.World.{Note, Message, Issued}
+use Rattle.safety.specs.Host.{MayAsk}
+use Rattle.safety.specs.Demand3.{Committed, Aborted}
+use Rattle.safety.proofs.Alone.{Story, none, open-with, closed, bad, Below, below-refl, Logged, logged-up, fine-down, View, out, early, voting, single, committing, aborting, Waits, NoAsk, AsksIn, Any, Base, Undecided, Shape}
+
+-- What a restart makes of a story
+abbrev pub Restored : Story → View → Type 0
+Restored none v = v ≡ out
+Restored (open-with rs) v = (es : List Enlistment) × (v ≡ committing es) × ((r : Id) → r ∈ rs → Some (Waits r) es) × Some Durable es
+Restored closed v = v ≡ out
+Restored bad v = Unit {0}
+
+module _ (t : Id) (S : List ℕ → Story) (l disk : Story) (h : List Note) (is : List Message) (wa se : List Issued) where
+  abbrev pub B : Type 0
+  B = Base t S l disk h wa se is
+
+  pub keep-store : B → (disk′ : Story) → Below disk disk′ → Below disk′ l → Base t S l disk′ h wa se is
+  keep-store b disk′ p q = record {
+    fine = b .fine;
+    below = q;
+    begun-log = b .begun-log;
+    begun-committed = b .begun-committed;
+    begun-aborted = b .begun-aborted;
+    begun-enlisted = b .begun-enlisted;
+    begun-ask = b .begun-ask;
+    both = b .both;
+    good-committed = b .good-committed;
+    good-log = b .good-log;
+    kept = b .kept;
+    asks = b .asks;
+    waits = b .waits;
+    leaves = λ i m a c. ⊎-elim inl (λ g. inr (logged-up disk disk′ p g)) (b .leaves i m a c);
+  }
+
+  -- what has left was waiting
+  left : (P : Name → Type 0) (i : Issued) → i ∈ wa → Any t P wa (i ∷ se) → Any t P wa se
+  left P i m (inl s) = inl s
+  left P i m (inr s) = go (List·Memᴰ·cases-cons (s .there))
+    where
+      go : (s .it ≡ i) ⊎ (s .it ∈ se) → Any t P wa se
+      go (inl e) = inl (record { it = i; there = m; holds = rw e at (s .holds) })
+      go (inr p) = inr (record { it = s .it; there = p; holds = s .holds })
+
+  pub keep-leave : B → (i : Issued) → i ∈ wa → Below (S (i .image)) disk → Base t S l disk h wa (i ∷ se) is
+  keep-leave b i m p = record {
+    fine = b .fine;
+    below = b .below;
+    begun-log = b .begun-log;
+    begun-committed = λ c. b .begun-committed (left Committed i m c);
+    begun-aborted = λ c. b .begun-aborted (left Aborted i m c);
+    begun-enlisted = b .begun-enlisted;
+    begun-ask = b .begun-ask;
+    both = λ c a. b .both (left Committed i m c) (left Aborted i m a);
+    good-committed = λ c. b .good-committed (left Committed i m c);
+    good-log = b .good-log;
+    kept = λ g a. b .kept g (left Aborted i m a);
+    asks = b .asks;
+    waits = b .waits;
+    leaves = λ j q a c. ⊎-elim
+        (λ e. ⊎-elim inl (λ g. inr (logged-up (S (i .image)) disk p g)) (b .waits i m (rw e at a) (rw e at c)))
+        (λ q′. b .leaves j q′ a c) (List·Memᴰ·cases-cons q);
+  }
+
+  undecided-leave : (i : Issued) → i ∈ wa → Undecided t l h wa se → Undecided t l h wa (i ∷ se)
+  undecided-leave i m u = record { log-none = u .log-none; begun = u .begun; no-committed = λ c. u .no-committed (left Committed i m c); no-aborted = λ c. u .no-aborted (left Aborted i m c) }
+
+  pub shape-leave : (v : View) → Shape t v l h wa se is → (i : Issued) → i ∈ wa → Shape t v l h wa (i ∷ se) is
+  shape-leave out s i m = record { not-open = s .not-open; no-ask = λ c. s .no-ask (left Committed i m c) }
+  shape-leave (early es) s i m = record { undecided = undecided-leave i m (s .undecided); no-ask = s .no-ask; held = s .held }
+  shape-leave (voting es) s i m = record { undecided = undecided-leave i m (s .undecided); held = s .held; hopes = s .hopes }
+  shape-leave (single es) s i m = record { undecided = undecided-leave i m (s .undecided); no-ask = s .no-ask; number = s .number; numbers = s .numbers; only = s .only; asked = s .asked }
+  shape-leave (committing es) s i m = record {
+    begun = s .begun;
+    no-aborted = λ c. s .no-aborted (left Aborted i m c);
+    good = s .good;
+    wait = s .wait;
+    record-or-none = s .record-or-none;
+  }
+  shape-leave aborting s i m = record { log-none = s .log-none; begun = s .begun; no-committed = λ c. s .no-committed (left Committed i m c) }
+
+  -- ── restart: the log is what the disk tells, and nothing waits ────────────────────────────────────────────────
+
+  only-sent : (P : Name → Type 0) → Any t P [] se → Any t P wa se
+  only-sent P (inl s) = absurd (List·Memᴰ·not-nil (s .there))
+  only-sent P (inr s) = inr s
+
+  asks-down : (a b : Story) → Below a b → AsksIn t b h → AsksIn t a h
+  asks-down none b p q = tt
+  asks-down (open-with rs) none p q = elim p [ ]
+  asks-down (open-with rs) (open-with qs) p q = λ r m. rw p (q r m)
+  asks-down (open-with rs) closed p q = λ r m. absurd (q r m)
+  asks-down (open-with rs) bad p q = λ r m. absurd (q r m)
+  asks-down closed none p q = elim p [ ]
+  asks-down closed (open-with qs) p q = elim p [ ]
+  asks-down closed closed p q = q
+  asks-down closed bad p q = q
+  asks-down bad none p q = elim p [ ]
+  asks-down bad (open-with qs) p q = elim p [ ]
+  asks-down bad closed p q = elim p [ ]
+  asks-down bad bad p q = q
+
+  pub keep-restart : B → Base t S disk disk h [] se is
+  keep-restart b = record {
+    fine = fine-down disk l (b .below) (b .fine);
+    below = below-refl disk;
+    begun-log = λ g. b .begun-log (up g);
+    begun-committed = λ c. b .begun-committed (only-sent Committed c);
+    begun-aborted = λ c. b .begun-aborted (only-sent Aborted c);
+    begun-enlisted = b .begun-enlisted;
+    begun-ask = b .begun-ask;
+    both = λ c a. b .both (only-sent Committed c) (only-sent Aborted a);
+    good-committed = λ c. b .good-committed (only-sent Committed c);
+    good-log = λ g. b .good-log (up g);
+    kept = λ g a. b .kept (up g) (only-sent Aborted a);
+    asks = asks-down disk l (b .below) (b .asks);
+    waits = λ i m a c. absurd (List·Memᴰ·not-nil m);
+    leaves = b .leaves;
+  }
+    where
+      up : Logged disk → Logged l
+      up = logged-up disk l (b .below)
+
+  none-not-open : {s : Story} → s ≡ none → (rs : List Id) → s ≡ open-with rs → ⊥
+  none-not-open e rs p = let z : _≡_ {A = ℕ} 0 1 = cc in omega arith
+
+  closed-not-open : {s : Story} → s ≡ closed → (rs : List Id) → s ≡ open-with rs → ⊥
+  closed-not-open e rs p = let z : _≡_ {A = ℕ} 0 1 = cc in omega arith
+
+  pub shape-restart : B → (v : View) → Restored disk v → Shape t v disk h [] se is
+  shape-restart b v = go disk refl
+    where
+      sent-com : Any t Committed [] se → NoAsk t h ⊎ Logged disk
+      sent-com (inl s) = absurd (List·Memᴰ·not-nil (s .there))
+      sent-com (inr s) = b .leaves (s .it) (s .there) (s .holds .0) (s .holds .1)
+
+      go : (d : Story) → disk ≡ d → Restored d v → Shape t v disk h [] se is
+      go none e r = rw r (record { not-open = none-not-open e; no-ask = λ c. ⊎-elim (λ y. y) (λ g. absurd (rw e at g)) (sent-com c) })
+      go (open-with rs) e (es, ev, w, d) = rw ev (record {
+        begun = b .begun-log (logged-up disk l (b .below) (rw e tt));
+        no-aborted = λ a. b .kept (logged-up disk l (b .below) (rw e tt)) (only-sent Aborted a);
+        good = b .good-log (logged-up disk l (b .below) (rw e tt));
+        wait = λ r m. w r (asked-in r m);
+        record-or-none = inl (rs, e, d);
+      })
+        where
+          asked-in : (r : Id) → MayAsk t r h → r ∈ rs
+          asked-in = rw e at (asks-down disk l (b .below) (b .asks))
+      go closed e r = rw r (record { not-open = closed-not-open e; no-ask = λ c. rw e at (asks-down disk l (b .below) (b .asks)) })
+      go bad e r = absurd (fine-down disk l (b .below) (b .fine) e)

@@ -1,0 +1,270 @@
+-- Several transactions end in one event: what the ends in a row are to each transaction. Each forgets the one that stands at its place,
+-- and leaves every other one where it was; the room for the forget records was kept.
+use Prim.Native.Nat.{ℕ, suc, _+_, _*_, _≤_, _<_}
+use native.Mathlib.Omega.{arith}
+use mathlib.Core.Path.{_≡_, refl, sym, _∙_, ap, ap₂}
+use mathlib.Core.Bool.{Bool, true, false, cond}
+use mathlib.Core.List.{List, [], _∷_, _++_, append-assoc, append-nil, List·Memᴰ·head, List·Memᴰ·tail, List·Memᴰ·cases-cons, List·Memᴰ·not-nil}
+use lib.ListN.{length, take}
+use lib.Dec.{eqb}
+use borrow.Author.Tests.{eqb-true, eqb-false, ne-eqb}
+use Rattle.lists.specs.Members.{_∈_, Each}
+use Rattle.lists.specs.Lists.{any, filter}
+use Rattle.lists.specs.Places.{placeOf, atFrom, at, changeFrom, placesFrom}
+use Rattle.lists.proofs.Tests.{by-test, by-either, no-clash, is-false, true-and, false-not, each-nothing, each-more}
+use Rattle.rules.specs.declared.Transaction.{Transaction}
+use Rattle.rules.specs.declared.Enlistment.{Enlistment}
+use Rattle.rules.specs.declared.Table.{Table}
+use Rattle.rules.specs.TransactionState as transaction
+use Rattle.rules.specs.Sizes.{identifierSize}
+use Rattle.rules.specs.Identifiers.{Id}
+use Rattle.rules.specs.Table.{noTransaction, isLive, isNamed, transactionAt, stateAt, idAt, heldBy, held, isDurable, freed, ended, changeHeld, changeTransaction, emptied, useMore}
+use Rattle.rules.specs.Sound.{isOpen, openPlaces, openCount}
+use Rattle.rules.specs.Log.{Record, recordBytes, allBytes, forgetSize}
+use Rattle.rules.specs.Events.{Outcome, quietly, append, endOf, endEach}
+use Rattle.rules.proofs.Identifiers.{same-refl, other-not-same}
+use Rattle.rules.proofs.Records.{Valid, valid-forget}
+use Rattle.rules.proofs.Frames.{held-other, held-transaction, named-is, Stands, Absent, at-other, at-changed, absent-ended, unnamed-ended, written-used, length-written, not-zero, named-place}
+use Rattle.safety.proofs.Alone.{Story, View, out}
+use Rattle.safety.proofs.Story.{next, story, story-append, onForget, valid-both, bytes-append}
+use Rattle.safety.proofs.View.{viewOf, look, view-absent, ends-other, freed-keeps}
+use Rattle.safety.proofs.Own.{by-cases}
+
+-- ── how many places pass ────────────────────────────────────────────────────────────────────────────────────────
+
+module _ {A : Type 0} (f g : ℕ → A → Bool) (h : A → A) (p : ℕ) (same : (q : ℕ) (x : A) → (q ≡ p → ⊥) → (q ≡ 0 → ⊥) → g q x ≡ f q x) (gone : (x : A) → g p (h x) ≡ false) where
+  no-more : (k : ℕ) (xs : List A) → 0 < k → length (placesFrom g k (changeFrom h k p xs)) ≤ length (placesFrom f k xs)
+  unfolding placesFrom changeFrom
+  no-more k [] l = omega arith
+  no-more k (x ∷ xs) l = let ih : length (placesFrom g (suc k) (changeFrom h (suc k) p xs)) ≤ length (placesFrom f (suc k) xs) = no-more (suc k) xs (omega arith) in
+      by-test (eqb k p)
+      (λ e. by-test (f k x)
+      (λ b. rw (e, b, ap (λ q. g q (h x)) (eqb-true k p e) ∙ gone x) (omega (arith, ih)))
+      (λ b. rw (e, b, ap (λ q. g q (h x)) (eqb-true k p e) ∙ gone x) ih))
+      (λ e. by-test (f k x)
+      (λ b. rw (e, same k x (eqb-false k p e) (λ z. omega (arith, z, l)), b) (omega (arith, ih)))
+      (λ b. rw (e, same k x (eqb-false k p e) (λ z. omega (arith, z, l)), b) ih))
+
+  one-less : (k : ℕ) (d : A) (xs : List A) → 0 < k → f p d ≡ false → f p (atFrom d k p xs) ≡ true → suc (length (placesFrom g k (changeFrom h k p xs))) ≤ length (placesFrom f k xs)
+  unfolding placesFrom changeFrom atFrom
+  one-less k d [] l n t = no-clash (f p d) t n
+  one-less k d (x ∷ xs) l n t = by-test (eqb k p)
+      (λ e. let b : f k x ≡ true = ap (λ q. f q x) (eqb-true k p e) ∙ (rw e at t) in
+      rw (e, b, ap (λ q. g q (h x)) (eqb-true k p e) ∙ gone x) (omega (arith, no-more (suc k) xs (omega arith))))
+      (λ e. let ih : suc (length (placesFrom g (suc k) (changeFrom h (suc k) p xs))) ≤ length (placesFrom f (suc k) xs) = one-less (suc k) d xs (omega arith) n (rw e at t) in
+      by-test (f k x)
+      (λ b. rw (e, same k x (eqb-false k p e) (λ z. omega (arith, z, l)), b) (omega (arith, ih)))
+      (λ b. rw (e, same k x (eqb-false k p e) (λ z. omega (arith, z, l)), b) ih))
+
+-- ── one end ─────────────────────────────────────────────────────────────────────────────────────────────────────
+
+-- the identifiers of the live ones can be written, and there is room for the forget records of the open ones
+pub record Roomy (tb : Table) (log : List ℕ) : Type 0 where
+  pub sized : (p : ℕ) → isLive (transactionAt p tb) ≡ true → length (idAt p tb) ≡ identifierSize
+  pub room : tb .used + forgetSize * openCount tb ≤ length log
+
+-- what is written when the transaction at p ends
+unfoldable pub forgetOf : ℕ → Table → List Record
+forgetOf p tb = cond (isOpen (stateAt p tb) (held p tb)) (Record.forget (idAt p tb) ∷ []) []
+
+-- tables that differ in their lengths only
+pub record Alike (tb tb′ : Table) : Type 0 where
+  pub transactions-same : tb′ .transactions ≡ tb .transactions
+  pub enlistments-same : tb′ .enlistments ≡ tb .enlistments
+
+pub alike-view : (u : Id) (tb tb′ : Table) → Alike tb tb′ → viewOf u tb′ ≡ viewOf u tb
+unfolding viewOf held
+alike-view u tb tb′ a = ap₂ (λ xs es. look (at noTransaction (placeOf (isNamed u) xs) xs .state) (filter (heldBy (placeOf (isNamed u) xs)) es)) (a .transactions-same) (a .enlistments-same)
+
+alike-at : (q : ℕ) (tb tb′ : Table) → Alike tb tb′ → transactionAt q tb′ ≡ transactionAt q tb
+alike-at q tb tb′ a = ap (at noTransaction q) (a .transactions-same)
+
+alike-held : (q : ℕ) (tb tb′ : Table) → Alike tb tb′ → held q tb′ ≡ held q tb
+unfolding held
+alike-held q tb tb′ a = ap (filter (heldBy q)) (a .enlistments-same)
+
+more-open : (n : ℕ) (tb : Table) → openPlaces (useMore n tb) ≡ openPlaces tb
+unfolding openPlaces useMore held
+more-open n tb = refl
+
+live-open : (s : ℕ) (hs : List Enlistment) → isOpen s hs ≡ true → s ≡ transaction.committing
+live-open s hs o = eqb-true s transaction.committing (true-and (eqb s transaction.committing) (any isDurable hs) o .0)
+
+open-live : (p : ℕ) (tb : Table) → isOpen (stateAt p tb) (held p tb) ≡ true → isLive (transactionAt p tb) ≡ true
+open-live p tb o = false-not (ne-eqb (stateAt p tb) 0 (λ z. omega (arith, z, live-open (stateAt p tb) (held p tb) o)))
+
+module _ (p : ℕ) (tb : Table) (log : List ℕ) where
+  abbrev o : Outcome
+  o = endOf p tb log
+
+  -- it is the table with the places of p emptied, but for the used length
+  pub ends-alike : Alike (emptied p tb) (o .table)
+  unfolding endOf append useMore
+  ends-alike = by-cases (λ (w : Outcome). Alike (emptied p tb) (w .table)) (isOpen (stateAt p tb) (held p tb)) _ _ (λ _. record { transactions-same = refl; enlistments-same = refl }) (λ _. record { transactions-same = refl; enlistments-same = refl })
+
+  ends-at : (q : ℕ) → transactionAt q (o .table) ≡ transactionAt q (emptied p tb)
+  ends-at q = alike-at q (emptied p tb) (o .table) ends-alike
+
+  ends-held : (q : ℕ) → (q ≡ p → ⊥) → (q ≡ 0 → ⊥) → held q (o .table) ≡ held q tb
+  ends-held q d z = alike-held q (emptied p tb) (o .table) ends-alike ∙ held-transaction p q ended (changeHeld p freed tb) ∙ held-other p q freed tb freed-keeps d z
+
+  ends-elsewhere : (q : ℕ) → (q ≡ p → ⊥) → transactionAt q (o .table) ≡ transactionAt q tb
+  unfolding changeHeld
+  ends-elsewhere q d = ends-at q ∙ at-other p ended (changeHeld p freed tb) q d
+
+  pub ends-silent : o .signals ≡ []
+  unfolding endOf append
+  ends-silent = by-cases (λ (w : Outcome). w .signals ≡ []) (isOpen (stateAt p tb) (held p tb)) _ _ (λ _. refl) (λ _. refl)
+
+  module _ (g : Roomy tb log) where
+    ends-valid : Each Valid (forgetOf p tb)
+    unfolding forgetOf
+    ends-valid = by-test (isOpen (stateAt p tb) (held p tb)) (λ b. rw b (each-more (valid-forget (g .sized p (open-live p tb b))) (each-nothing Valid))) (λ b. rw b (each-nothing Valid))
+
+    forget-length : isOpen (stateAt p tb) (held p tb) ≡ true → length (recordBytes (Record.forget (idAt p tb))) ≡ forgetSize
+    unfolding recordBytes
+    forget-length b = rw (g .sized p (open-live p tb b)) refl
+
+    -- one open transaction less
+    fewer : isOpen (stateAt p tb) (held p tb) ≡ true → suc (openCount (emptied p tb)) ≤ openCount tb
+    unfolding openPlaces changeHeld changeTransaction
+    fewer b = one-less (λ q x. isOpen (x .state) (held q tb)) (λ q x. isOpen (x .state) (held q (emptied p tb))) ended p
+        (λ q x d z. ap (isOpen (x .state)) (held-transaction p q ended (changeHeld p freed tb) ∙ held-other p q freed tb freed-keeps d z)) (λ x. refl) 1 noTransaction (tb .transactions) (omega arith) refl b
+
+    not-more : openCount (emptied p tb) ≤ openCount tb
+    unfolding openPlaces changeHeld changeTransaction
+    not-more = no-more (λ q x. isOpen (x .state) (held q tb)) (λ q x. isOpen (x .state) (held q (emptied p tb))) ended p
+        (λ q x d z. ap (isOpen (x .state)) (held-transaction p q ended (changeHeld p freed tb) ∙ held-other p q freed tb freed-keeps d z)) (λ x. refl) 1 (tb .transactions) (omega arith)
+
+    -- what one end gives: its record behind the others, and room for the rest
+    record Next (w : Outcome) (rs : List Record) : Type 0 where
+      bytes : take (w .table .used) (w .log) ≡ take (tb .used) log ++ allBytes rs
+      room : w .table .used + forgetSize * openCount (w .table) ≤ length (w .log)
+
+    next-open : isOpen (stateAt p tb) (held p tb) ≡ true → Next (append (Record.forget (idAt p tb)) (emptied p tb) log) (Record.forget (idAt p tb) ∷ [])
+    unfolding append useMore allBytes changeHeld changeTransaction
+    next-open b = record {
+      bytes = written-used (tb .used) bs log (omega (arith, size, fewer b, g .room)) ∙ ap (λ l. take (tb .used) log ++ l) (sym (append-nil bs));
+      room = rw (length-written (tb .used) bs log) (omega (arith, size, fewer b, g .room, same));
+    }
+      where
+        bs : List ℕ
+        bs = recordBytes (Record.forget (idAt p tb))
+
+        size : length bs ≡ forgetSize
+        size = forget-length b
+
+        same : openCount (useMore (length bs) (emptied p tb)) ≡ openCount (emptied p tb)
+        same = ap length (more-open (length bs) (emptied p tb))
+
+    next-closed : isOpen (stateAt p tb) (held p tb) ≡ false → Next (quietly (emptied p tb) log) []
+    unfolding allBytes changeHeld changeTransaction
+    next-closed b = record { bytes = sym (append-nil (take (tb .used) log)); room = omega (arith, g .room, not-more) }
+
+    next-end : Next o (forgetOf p tb)
+    unfolding endOf forgetOf
+    next-end = by-test (isOpen (stateAt p tb) (held p tb)) (λ b. rw b (next-open b)) (λ b. rw b (next-closed b))
+
+    pub ends-bytes : take (o .table .used) (o .log) ≡ take (tb .used) log ++ allBytes (forgetOf p tb)
+    ends-bytes = next-end .bytes
+
+    pub ends-roomy : Roomy (o .table) (o .log)
+    ends-roomy = record { room = next-end .room; sized = sized }
+      where
+        sized : (q : ℕ) → isLive (transactionAt q (o .table)) ≡ true → length (idAt q (o .table)) ≡ identifierSize
+        sized q l = by-test (eqb q p)
+            (λ e. no-clash (isLive (transactionAt p (o .table))) (rw (eqb-true q p e) at l) (ap isLive (ends-at p) ∙ at-changed p ended (changeHeld p freed tb) (λ c. ap isLive c) (λ c. ap isLive c)))
+            (λ e. ap (λ (x : Transaction). length (x .id .0)) (ends-elsewhere q (eqb-false q p e)) ∙ g .sized q (ap isLive (sym (ends-elsewhere q (eqb-false q p e))) ∙ l))
+
+  -- ── to another transaction ────────────────────────────────────────────────────────────────────────────────────
+
+  pub ends-view : (u : Id) → isNamed u (transactionAt p tb) ≡ false → viewOf u (o .table) ≡ viewOf u tb
+  ends-view u n = alike-view u (emptied p tb) (o .table) ends-alike ∙ ends-other u p tb n
+
+  pub ends-story : (u : Id) (s : Story) → isNamed u (transactionAt p tb) ≡ false → story u s (forgetOf p tb) ≡ s
+  unfolding forgetOf story next
+  ends-story u s n = by-test (isOpen (stateAt p tb) (held p tb))
+      (λ b. rw (b, other-not-same (idAt p tb) u (λ e. no-clash (isNamed u (transactionAt p tb)) (rw (open-live p tb b, e) (same-refl u)) n)) refl)
+      (λ b. rw b refl)
+
+  pub ends-unnamed : (u : Id) (q : ℕ) → isNamed u (transactionAt q tb) ≡ false → isNamed u (transactionAt q (o .table)) ≡ false
+  unfolding changeHeld
+  ends-unnamed u q n = ap (isNamed u) (ends-at q) ∙ unnamed-ended u p q (changeHeld p freed tb) n
+
+  -- one that stands elsewhere stays there, as it is
+  pub ends-stands : (t : Id) (q : ℕ) → Stands t q tb → (q ≡ p → ⊥) → Stands t q (o .table)
+  ends-stands t q s d = record {
+    here = ap (isNamed t) (ends-elsewhere q d) ∙ s .here;
+    alone = λ w e. by-test (isNamed t (transactionAt w tb)) (λ b. s .alone w b) (λ b. no-clash (isNamed t (transactionAt w (o .table))) e (ends-unnamed t w b));
+  }
+
+  pub ends-open : (q : ℕ) → (q ≡ p → ⊥) → (q ≡ 0 → ⊥) → isOpen (stateAt q (o .table)) (held q (o .table)) ≡ isOpen (stateAt q tb) (held q tb)
+  ends-open q d z = ap₂ isOpen (ap (λ (x : Transaction). x .state) (ends-elsewhere q d)) (ends-held q d z)
+
+  -- ── to its own ────────────────────────────────────────────────────────────────────────────────────────────────
+
+  pub ends-absent : (t : Id) → Stands t p tb → Absent t (o .table)
+  unfolding changeHeld
+  ends-absent t s = record { nowhere = λ q. ap (isNamed t) (ends-at q) ∙ absent-ended t p (changeHeld p freed tb) (s .alone) .nowhere q }
+
+  pub ends-forgets : (t : Id) (s : Story) → Stands t p tb → isOpen (stateAt p tb) (held p tb) ≡ true → story t s (forgetOf p tb) ≡ onForget s
+  unfolding forgetOf story next
+  ends-forgets t s at b = rw (b, named-is t (transactionAt p tb) (at .here) .1, same-refl t) refl
+
+-- ── ends in a row ───────────────────────────────────────────────────────────────────────────────────────────────
+
+unfoldable pub forgets : List ℕ → Table → List ℕ → List Record
+forgets [] tb log = []
+forgets (p ∷ ps) tb log = forgetOf p tb ++ forgets ps (endOf p tb log .table) (endOf p tb log .log)
+
+pub each-silent : (ps : List ℕ) (tb : Table) (log : List ℕ) → endEach ps tb log .signals ≡ []
+unfolding endEach
+each-silent [] tb log = refl
+each-silent (p ∷ ps) tb log = each-silent ps (endOf p tb log .table) (endOf p tb log .log)
+
+pub each-valid : (ps : List ℕ) (tb : Table) (log : List ℕ) → Roomy tb log → Each Valid (forgets ps tb log)
+unfolding forgets
+each-valid [] tb log g = each-nothing Valid
+each-valid (p ∷ ps) tb log g = valid-both (forgetOf p tb) (forgets ps (endOf p tb log .table) (endOf p tb log .log)) (ends-valid p tb log g) (each-valid ps (endOf p tb log .table) (endOf p tb log .log) (ends-roomy p tb log g))
+
+pub each-bytes : (ps : List ℕ) (tb : Table) (log : List ℕ) → Roomy tb log → take (endEach ps tb log .table .used) (endEach ps tb log .log) ≡ take (tb .used) log ++ allBytes (forgets ps tb log)
+unfolding endEach forgets allBytes
+each-bytes [] tb log g = sym (append-nil (take (tb .used) log))
+each-bytes (p ∷ ps) tb log g = each-bytes ps (endOf p tb log .table) (endOf p tb log .log) (ends-roomy p tb log g)
+    ∙ ap (λ l. l ++ allBytes (forgets ps (endOf p tb log .table) (endOf p tb log .log))) (ends-bytes p tb log g)
+    ∙ append-assoc (take (tb .used) log) (allBytes (forgetOf p tb)) (allBytes (forgets ps (endOf p tb log .table) (endOf p tb log .log)))
+    ∙ ap (λ l. take (tb .used) log ++ l) (sym (bytes-append (forgetOf p tb) (forgets ps (endOf p tb log .table) (endOf p tb log .log))))
+
+-- what the ends are to a transaction: the view afterwards, and what they add to its story
+pub record Seen (t : Id) (ps : List ℕ) (tb : Table) (log : List ℕ) (v : View) (f : Story → Story) : Type 0 where
+  pub view : viewOf t (endEach ps tb log .table) ≡ v
+  pub tale : (s : Story) → story t s (forgets ps tb log) ≡ f s
+
+one-more : (t : Id) (q : ℕ) (ps : List ℕ) (tb : Table) (log : List ℕ) (v : View) (f g : Story → Story)
+    → Seen t ps (endOf q tb log .table) (endOf q tb log .log) v f → ((s : Story) → story t s (forgetOf q tb) ≡ g s) → Seen t (q ∷ ps) tb log v (λ s. f (g s))
+unfolding endEach forgets
+one-more t q ps tb log v f g r h = record {
+  view = r .view;
+  tale = λ s. story-append t s (forgetOf q tb) (forgets ps (endOf q tb log .table) (endOf q tb log .log)) ∙ r .tale (story t s (forgetOf q tb)) ∙ ap f (h s);
+}
+
+-- to one that stands at none of the places
+pub each-other : (u : Id) (ps : List ℕ) (tb : Table) (log : List ℕ) (v : View) → viewOf u tb ≡ v → ((q : ℕ) → q ∈ ps → isNamed u (transactionAt q tb) ≡ false) → Seen u ps tb log v (λ s. s)
+unfolding endEach forgets story
+each-other u [] tb log v e n = record { view = e; tale = λ s. refl }
+each-other u (p ∷ ps) tb log v e n =
+    let here : isNamed u (transactionAt p tb) ≡ false = n p (List·Memᴰ·head refl) in
+    one-more u p ps tb log v (λ s. s) (λ s. s)
+    (each-other u ps (endOf p tb log .table) (endOf p tb log .log) v (ends-view p tb log u here ∙ e) (λ q m. ends-unnamed p tb log u q (n q (List·Memᴰ·tail m))))
+    (λ s. ends-story p tb log u s here)
+
+-- to one that stands at one of them, and is open
+pub each-own : (t : Id) (p : ℕ) (ps : List ℕ) (tb : Table) (log : List ℕ) → Stands t p tb → p ∈ ps → isOpen (stateAt p tb) (held p tb) ≡ true → Seen t ps tb log out onForget
+each-own t p [] tb log s m b = absurd (List·Memᴰ·not-nil m)
+each-own t p (q ∷ ps) tb log s m b = by-test (eqb p q)
+    (λ e. rw (← eqb-true p q e) (one-more t p ps tb log out (λ s. s) onForget
+    (each-other t ps (endOf p tb log .table) (endOf p tb log .log) out (view-absent t (endOf p tb log .table) (ends-absent p tb log t s)) (λ w i. ends-absent p tb log t s .nowhere w))
+    (λ k. ends-forgets p tb log t k s b)))
+    (λ e. let d : p ≡ q → ⊥ = eqb-false p q e in one-more t q ps tb log out onForget (λ s. s)
+    (each-own t p ps (endOf q tb log .table) (endOf q tb log .log) (ends-stands q tb log t p s d) (by-either (λ c. absurd (d c)) (λ i. i) (List·Memᴰ·cases-cons m)) (ends-open q tb log p d (not-zero (named-place t p tb (s .here))) ∙ b))
+    (λ k. ends-story q tb log t k (is-false (isNamed t (transactionAt q tb)) (λ n. d (sym (s .alone q n))))))

@@ -1,0 +1,167 @@
+-- What an accepted step may take for granted of the table that it is given: it is sound, so that names stand at one place, a number is
+-- one enlistment's, and the state of an enlistment tells that of its transaction.
+use Prim.Native.Nat.{ℕ, suc}
+use mathlib.Core.Path.{_≡_, refl, sym, _∙_, ap}
+use mathlib.Core.Logic.{_⊎_, inl, inr}
+use mathlib.Core.Bool.{Bool, true, false}
+use mathlib.Core.List.{List, [], _∷_, List·Memᴰ·head, List·Memᴰ·tail, List·Memᴰ·cases-cons, List·Memᴰ·not-nil}
+use lib.Dec.{eqb}
+use lib.ListN.{length}
+use borrow.Author.Tests.{eqb-true, eqb-false, eq-eqb, ne-eqb}
+use Rattle.lists.specs.Members.{_∈_, Each, Apart, more}
+use Rattle.lists.specs.Lists.{filter}
+use Rattle.lists.specs.Places.{atFrom}
+use Rattle.lists.proofs.Tests.{by-test, by-either, no-clash, not-true, false-not, in-filter, first-passes, some-any}
+use Rattle.rules.specs.declared.Enlistment.{Enlistment}
+use Rattle.rules.specs.declared.Table.{Table}
+use Rattle.rules.specs.TransactionState as transaction
+use Rattle.rules.specs.EnlistmentState as enlistment
+use Rattle.rules.specs.Sizes.{identifierSize}
+use Rattle.rules.specs.Identifiers.{Id}
+use Rattle.rules.specs.Table.{noTransaction, noEnlistment, isLive, isNamed, transactionAt, stateAt, idAt, isHeld, held, isNumbered, numbered}
+use Rattle.rules.specs.Sound.{Sound, HoldsWell, In, PhaseZero, Live, Held, active, phase-zero, phase-one, single-phase, committing, aborting}
+use Rattle.rules.specs.Refusals.{isNumberHeld}
+use Rattle.rules.proofs.Frames.{of-held, in-held, named-is, is-named, named-place, by-place, not-zero, Stands}
+use Rattle.lists.proofs.Places.{at-member}
+use Rattle.safety.specs.World.{ownerOf}
+
+-- ── lists in which no two are alike ─────────────────────────────────────────────────────────────────────────────
+
+module _ {A : Type 0} {R : A → A → Type 0} where
+  apart-head : {x : A} {xs : List A} → Apart R (x ∷ xs) → Each (λ y. R x y → ⊥) xs
+  apart-head (more h a) = h
+
+  apart-rest : {x : A} {xs : List A} → Apart R (x ∷ xs) → Apart R xs
+  apart-rest (more h a) = a
+
+module _ {A : Type 0} {R : A → A → Type 0} (flip : (x y : A) → R x y → R y x) where
+  pub apart-equal : (xs : List A) → Apart R xs → {x y : A} → x ∈ xs → y ∈ xs → R x y → x ≡ y
+  apart-equal [] a m n r = absurd (List·Memᴰ·not-nil m)
+  apart-equal (z ∷ xs) a {x} {y} m n r = go (List·Memᴰ·cases-cons m) (List·Memᴰ·cases-cons n) (λ p q. apart-equal xs (apart-rest a) p q r)
+    where
+      go : (x ≡ z) ⊎ (x ∈ xs) → (y ≡ z) ⊎ (y ∈ xs) → (x ∈ xs → y ∈ xs → x ≡ y) → x ≡ y
+      go (inl p) (inl q) ih = p ∙ sym q
+      go (inl p) (inr q) ih = absurd (apart-head a y q (rw p at r))
+      go (inr p) (inl q) ih = absurd (apart-head a x p (flip x z (rw q at r)))
+      go (inr p) (inr q) ih = ih p q
+
+  module _ (f : A → Bool) (d : A) (unfit : f d ≡ false) where
+    at-in : (k p : ℕ) (xs : List A) → f (atFrom d k p xs) ≡ true → atFrom d k p xs ∈ filter f xs
+    unfolding atFrom filter
+    at-in k p [] e = no-clash (f d) e unfit
+    at-in k p (x ∷ xs) e = by-test (eqb k p)
+        (λ c. let t : f x ≡ true = rw c at e in rw (c, t) (List·Memᴰ·head refl))
+        (λ c. let m : atFrom d (suc k) p xs ∈ filter f xs = at-in (suc k) p xs (rw c at e) in by-test (f x) (λ t. rw (c, t) (List·Memᴰ·tail m)) (λ t. rw (c, t) m))
+
+    -- two places that pass and are alike are one
+    pub one-place : (k p q : ℕ) (xs : List A) → Apart R (filter f xs) → f (atFrom d k p xs) ≡ true → f (atFrom d k q xs) ≡ true → R (atFrom d k p xs) (atFrom d k q xs) → p ≡ q
+    unfolding atFrom filter
+    one-place k p q [] a u v r = no-clash (f d) u unfit
+    one-place k p q (x ∷ xs) a u v r = by-test (eqb k p)
+        (λ c. by-test (eqb k q)
+        (λ e. sym (eqb-true k p c) ∙ eqb-true k q e)
+        (λ e. let t : f x ≡ true = rw c at u in absurd (apart-head (rw t at a) (atFrom d (suc k) q xs) (at-in (suc k) q xs (rw e at v)) (rw (c, e) at r))))
+        (λ c. by-test (eqb k q)
+        (λ e. let t : f x ≡ true = rw e at v in absurd (apart-head (rw t at a) (atFrom d (suc k) p xs) (at-in (suc k) p xs (rw c at u)) (flip (atFrom d (suc k) p xs) x (rw (c, e) at r))))
+        (λ e. one-place (suc k) p q xs (by-test (f x) (λ t. apart-rest (rw t at a)) (λ t. rw t at a)) (rw c at u) (rw e at v) (rw (c, e) at r)))
+
+-- ── names and numbers ───────────────────────────────────────────────────────────────────────────────────────────
+
+module _ (tb : Table) (s : Sound tb) where
+  pub stands-sound : (t : Id) (p : ℕ) → isNamed t (transactionAt p tb) ≡ true → Stands t p tb
+  stands-sound t p e = record { here = e; alone = λ q n. one-place (λ x y r. sym r) isLive noTransaction refl 1 q p (tb .transactions) (s .transactions-differ) (named-is t (transactionAt q tb) n .0) (named-is t (transactionAt p tb) e .0) (named-is t (transactionAt q tb) n .1 ∙ sym (named-is t (transactionAt p tb) e .1)) }
+
+  -- an enlistment's own transaction is the one of its place
+  pub owner-stands : {x : Enlistment} → x ∈ tb .enlistments → Held x → Stands (idAt (x .holder) tb) (x .holder) tb
+  owner-stands {x} m h = stands-sound (idAt (x .holder) tb) (x .holder) (is-named (transactionAt (x .holder) tb) (false-not (ne-eqb (stateAt (x .holder) tb) 0 (s .holders-live x m h))))
+
+  pub id-size : (p : ℕ) → isLive (transactionAt p tb) ≡ true → length (idAt p tb) ≡ identifierSize
+  id-size p l = by-place p (tb .transactions)
+      (λ h. s .transaction-identifiers (transactionAt p tb) (at-member noTransaction (tb .transactions) h) (eqb-false (stateAt p tb) 0 (not-true (eqb (stateAt p tb) 0) l)) .0)
+      (λ z. no-clash (isLive (transactionAt p tb)) l (ap isLive z))
+
+  vacant-number : {x : Enlistment} → x ∈ tb .enlistments → x .holder ≡ 0 → x .number ≡ 0
+  vacant-number {x} m z = ap (λ (e : Enlistment). e .number) (s .empty-enlistments x m z)
+
+  numbered-held : {x : Enlistment} → x ∈ tb .enlistments → (x .number ≡ 0 → ⊥) → Held x
+  numbered-held m n z = n (vacant-number m z)
+
+  in-held-ones : {x : Enlistment} → x ∈ tb .enlistments → Held x → x ∈ filter isHeld (tb .enlistments)
+  in-held-ones {x} m h = in-filter isHeld (tb .enlistments) m (false-not (ne-eqb (x .holder) 0 h))
+
+  -- numbers differ, so that the enlistment with a number is the one
+  pub numbered-is : (n : ℕ) → (n ≡ 0 → ⊥) → {x : Enlistment} → x ∈ tb .enlistments → x .number ≡ n → numbered n tb ≡ x
+  unfolding numbered
+  numbered-is n nz {x} m e = apart-equal (λ a b r. sym r) (filter isHeld (tb .enlistments)) (s .numbers-differ) (in-held-ones (found .0) (numbered-held (found .0) (λ z. nz (sym is-n ∙ z)))) (in-held-ones m (numbered-held m (λ z. nz (sym e ∙ z)))) (is-n ∙ sym e)
+    where
+      found : (numbered n tb ∈ tb .enlistments) × (isNumbered n (numbered n tb) ≡ true)
+      found = first-passes noEnlistment (isNumbered n) (tb .enlistments) (some-any (isNumbered n) (tb .enlistments) (record { it = x; there = m; holds = eq-eqb (x .number) n e }))
+
+      is-n : numbered n tb .number ≡ n
+      is-n = eqb-true (numbered n tb .number) n (found .1)
+
+  -- what a live transaction holds is its own
+  pub owner-held : (t : Id) (p : ℕ) → Stands t p tb → {x : Enlistment} → x ∈ held p tb → (x .number ≡ 0 → ⊥) × (ownerOf (x .number) tb ≡ t)
+  owner-held t p at {x} m = (nz, ap (λ (e : Enlistment). idAt (e .holder) tb) (numbered-is (x .number) nz (of-held p tb m .0) refl) ∙ ap (λ q. idAt q tb) (of-held p tb m .1) ∙ named-is t (transactionAt p tb) (at .here) .1)
+    where
+      is-held : Held x
+      is-held z = not-zero (named-place t p tb (at .here)) (sym (of-held p tb m .1) ∙ z)
+
+      nz : x .number ≡ 0 → ⊥
+      nz = s .numbers x (of-held p tb m .0) is-held .0
+
+-- ── by the state of an enlistment ───────────────────────────────────────────────────────────────────────────────
+
+-- the lines of the table of states, for one enlistment
+pub data Row (s : ℕ) (e : Enlistment) : Type 0 where
+  in-active : (s ≡ transaction.active) ⊎ (s ≡ transaction.phaseZero) → In enlistment.active e → Row s e
+  in-zero : s ≡ transaction.phaseZero → PhaseZero e → In enlistment.zero e → Row s e
+  in-voting : s ≡ transaction.phaseOne → In enlistment.preparing e ⊎ (In enlistment.prepared e ⊎ In enlistment.preparedLost e) → Row s e
+  in-single : s ≡ transaction.singlePhase → In enlistment.onePhase e → Row s e
+  in-commit : s ≡ transaction.committing → In enlistment.toldCommit e ⊎ (In enlistment.failedToNotify e ⊎ In enlistment.done e) → Row s e
+  in-abort : s ≡ transaction.aborting → In enlistment.toldAbort e ⊎ In enlistment.done e → Row s e
+
+pub row : {s : ℕ} {hs : List Enlistment} → HoldsWell s hs → {e : Enlistment} → e ∈ hs → Row s e
+row (active q a) {e} m = in-active (inl q) (a e m)
+row (phase-zero q a i) {e} m = by-either (λ w. in-zero q (w .0) (w .1)) (λ w. in-active (inr q) (w .1)) (a e m)
+row (phase-one q p a i) {e} m = in-voting q (by-either inl (λ w. inr (by-either inl (λ v. inr (v .0)) w)) (a e m))
+row (single-phase q l a) {e} m = in-single q (a e m .2)
+row (committing q p a i) {e} m = in-commit q (by-either inl (λ w. inr (by-either (λ v. inl (v .0)) inr w)) (a e m))
+row (aborting q a i) {e} m = in-abort q (a e m)
+
+-- ── an event about one enlistment ───────────────────────────────────────────────────────────────────────────────
+
+pub record Named (tb : Table) (n : ℕ) : Type 0 where
+  pub number : numbered n tb .number ≡ n
+  pub stands : Stands (ownerOf n tb) (numbered n tb .holder) tb
+  pub line : Row (stateAt (numbered n tb .holder) tb) (numbered n tb)
+  pub mine : numbered n tb ∈ held (numbered n tb .holder) tb
+  pub only : {x : Enlistment} → x ∈ held (numbered n tb .holder) tb → x .number ≡ n → numbered n tb ≡ x
+
+pub named-sound : (tb : Table) → Sound tb → (n : ℕ) → (n ≡ 0 → ⊥) → isNumberHeld n tb ≡ true → Named tb n
+unfolding numbered
+named-sound tb s n nz h = record {
+  number = is-n;
+  stands = at;
+  line = row (s .states (numbered n tb .holder) live) mine;
+  mine = mine;
+  only = λ m e. numbered-is tb s n nz (of-held (numbered n tb .holder) tb m .0) e;
+}
+  where
+    found : (numbered n tb ∈ tb .enlistments) × (isNumbered n (numbered n tb) ≡ true)
+    found = first-passes noEnlistment (isNumbered n) (tb .enlistments) h
+
+    is-n : numbered n tb .number ≡ n
+    is-n = eqb-true (numbered n tb .number) n (found .1)
+
+    is-held : Held (numbered n tb)
+    is-held = numbered-held tb s (found .0) (λ z. nz (sym is-n ∙ z))
+
+    mine : numbered n tb ∈ held (numbered n tb .holder) tb
+    mine = in-held (numbered n tb .holder) tb (found .0) refl
+
+    at : Stands (ownerOf n tb) (numbered n tb .holder) tb
+    at = owner-stands tb s (found .0) is-held
+
+    live : Live (transactionAt (numbered n tb .holder) tb)
+    live = s .holders-live (numbered n tb) (found .0) is-held

@@ -1,0 +1,16 @@
+pub mod Alone
+pub mod Move
+pub mod Cut
+pub mod Top
+pub mod Story
+pub mod View
+pub mod Given
+pub mod Messages
+pub mod Own
+pub mod Reactions
+pub mod Calls
+pub mod Ends
+pub mod Reenlisted
+pub mod Steps
+pub mod Restarts
+pub mod Safety

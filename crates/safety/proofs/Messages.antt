@@ -1,0 +1,148 @@
+-- Messages: whom the signals of an event are about, and which of them are no verdict. Safety asks no more of them than their names.
+use Prim.Native.Nat.{ℕ}
+use mathlib.Core.Path.{_≡_, refl, sym, _∙_, ap}
+use mathlib.Core.Logic.{_⊎_, inl, inr}
+use mathlib.Core.Bool.{Bool, true, false, true≢false}
+use mathlib.Core.List.{List, [], _∷_, _++_, map, List·Memᴰ·cases-cons, List·Memᴰ·append-cases, List·Memᴰ·not-nil}
+use lib.Dec.{eqb}
+use borrow.Author.Tests.{eq-eqb}
+use Rattle.lists.specs.Members.{Each, Some}
+use Rattle.lists.specs.Sorting.{sortBy}
+use Rattle.lists.proofs.Tests.{by-test, by-either, of-map}
+use Rattle.lists.proofs.Sorting.{of-sort}
+use Rattle.rules.specs.declared.Enlistment.{Enlistment}
+use Rattle.rules.specs.declared.Table.{Table}
+use Rattle.rules.specs.declared.Event.{Event}
+use Rattle.rules.specs.declared.Name.{Name}
+use Rattle.rules.specs.declared.Name.the-variants as name
+use Rattle.rules.specs.declared.Signal.{Signal}
+use Rattle.rules.specs.Identifiers.{Id}
+use Rattle.rules.specs.Signals.{byNumber, signal, toEach}
+use Rattle.safety.specs.World.{Message, ownerOf, subjectOf, messageOf}
+use Rattle.safety.specs.Demand3.{Committed, Aborted}
+use Rattle.safety.proofs.Alone.{New}
+use Rattle.safety.proofs.Move.{Quiet}
+
+-- ── names ───────────────────────────────────────────────────────────────────────────────────────────────────────
+
+abbrev pub notCommitted : Name → Bool
+notCommitted name.Nothing = true
+notCommitted name.Zero = true
+notCommitted name.Prepare = true
+notCommitted name.Single = true
+notCommitted name.Commit = false
+notCommitted name.Abort = true
+notCommitted name.AppCommitted = false
+notCommitted name.AppAborted = true
+notCommitted name.AppInDoubt = true
+notCommitted name.AnswerCommitted = false
+notCommitted name.AnswerAborted = true
+notCommitted name.AnswerNotYet = true
+
+abbrev pub notAborted : Name → Bool
+notAborted name.Nothing = true
+notAborted name.Zero = true
+notAborted name.Prepare = true
+notAborted name.Single = true
+notAborted name.Commit = true
+notAborted name.Abort = false
+notAborted name.AppCommitted = true
+notAborted name.AppAborted = false
+notAborted name.AppInDoubt = true
+notAborted name.AnswerCommitted = true
+notAborted name.AnswerAborted = false
+notAborted name.AnswerNotYet = true
+
+is-not-committed : (a : Name) → notCommitted a ≡ true → Committed a → ⊥
+is-not-committed a e (inl p) = true≢false (sym e ∙ ap notCommitted p)
+is-not-committed a e (inr (inl p)) = true≢false (sym e ∙ ap notCommitted p)
+is-not-committed a e (inr (inr p)) = true≢false (sym e ∙ ap notCommitted p)
+
+is-not-aborted : (a : Name) → notAborted a ≡ true → Aborted a → ⊥
+is-not-aborted a e (inl p) = true≢false (sym e ∙ ap notAborted p)
+is-not-aborted a e (inr (inl p)) = true≢false (sym e ∙ ap notAborted p)
+is-not-aborted a e (inr (inr p)) = true≢false (sym e ∙ ap notAborted p)
+
+-- every signal's name passes a test
+abbrev pub Only : (Name → Bool) → List Signal → Type 0
+Only f ss = Each (λ s. f (s .name) ≡ true) ss
+
+pub only-nothing : (f : Name → Bool) → Only f []
+only-nothing f s m = absurd (List·Memᴰ·not-nil m)
+
+pub only-one : (f : Name → Bool) (a : Name) (n : ℕ) → f a ≡ true → Only f (signal a n ∷ [])
+only-one f a n e s m = ap (λ (s : Signal). f (s .name)) (by-either (λ p. p) (λ q. absurd (List·Memᴰ·not-nil q)) (List·Memᴰ·cases-cons m)) ∙ e
+
+pub only-each : (f : Name → Bool) (a : Name) (es : List Enlistment) → f a ≡ true → Only f (toEach a es)
+unfolding toEach
+only-each f a es e s m = sym (ap (λ (s : Signal). f (s .name)) (of-map (λ e. signal a (e .number)) (sortBy byNumber es) m .holds)) ∙ e
+
+pub only-both : (f : Name → Bool) (a b : List Signal) → Only f a → Only f b → Only f (a ++ b)
+only-both f a b p q s m = by-either (p s) (q s) (List·Memᴰ·append-cases a m)
+
+-- ── whom they are about ─────────────────────────────────────────────────────────────────────────────────────────
+
+-- a signal is about the event's transaction, or it is no verdict
+abbrev pub Home : Table → Event → Signal → Type 0
+Home tb e s = (messageOf tb e s .about ≡ subjectOf tb e) ⊎ ((notCommitted (s .name) ≡ true) × (notAborted (s .name) ≡ true))
+
+abbrev pub Addressed : Table → Event → List Signal → Type 0
+Addressed tb e ss = Each (Home tb e) ss
+
+-- an enlistment's number belongs to t
+abbrev pub Owned : Table → Id → ℕ → Type 0
+Owned tb t n = (n ≡ 0) ⊎ (ownerOf n tb ≡ t)
+
+pub owned-about : (tb : Table) (e : Event) (a : Name) (n : ℕ) → Owned tb (subjectOf tb e) n → messageOf tb e (signal a n) .about ≡ subjectOf tb e
+unfolding messageOf
+owned-about tb e a n (inl q) = rw (eq-eqb n 0 q) refl
+owned-about tb e a n (inr q) = by-test (eqb n 0) (λ t. rw t refl) (λ t. rw t q)
+
+module _ (tb : Table) (e : Event) where
+  pub addressed-nothing : Addressed tb e []
+  addressed-nothing s m = absurd (List·Memᴰ·not-nil m)
+
+  pub addressed-one : (a : Name) (n : ℕ) → Owned tb (subjectOf tb e) n → Addressed tb e (signal a n ∷ [])
+  addressed-one a n o s m = inl (rw (by-either (λ q. q) (λ q. absurd (List·Memᴰ·not-nil q)) (List·Memᴰ·cases-cons m)) (owned-about tb e a n o))
+
+  pub addressed-neutral : (ss : List Signal) → Only notCommitted ss → Only notAborted ss → Addressed tb e ss
+  addressed-neutral ss f g s m = inr (f s m, g s m)
+
+  pub addressed-each : (a : Name) (es : List Enlistment) → Each (λ x. Owned tb (subjectOf tb e) (x .number)) es → Addressed tb e (toEach a es)
+  unfolding toEach
+  addressed-each a es o s m = go (of-map (λ e. signal a (e .number)) (sortBy byNumber es) m)
+    where
+      go : Some (λ x. signal a (x .number) ≡ s) (sortBy byNumber es) → Home tb e s
+      go w = inl (rw (← w .holds) (owned-about tb e a (w .it .number) (o (w .it) (of-sort byNumber es (w .there)))))
+
+  pub addressed-both : (a b : List Signal) → Addressed tb e a → Addressed tb e b → Addressed tb e (a ++ b)
+  addressed-both a b p q s m = by-either (p s) (q s) (List·Memᴰ·append-cases a m)
+
+module _ (t : Id) (tb : Table) (e : Event) (ss : List Signal) where
+  pub none-committed : Only notCommitted ss → New t Committed (map (messageOf tb e) ss) → ⊥
+  unfolding messageOf
+  none-committed o m = go (of-map (messageOf tb e) ss (m .there))
+    where
+      go : Some (λ s. messageOf tb e s ≡ m .it) ss → ⊥
+      go s = is-not-committed (s .it .name) (o (s .it) (s .there)) (rw (← s .holds) at (m .holds .1))
+
+  pub none-aborted : Only notAborted ss → New t Aborted (map (messageOf tb e) ss) → ⊥
+  unfolding messageOf
+  none-aborted o m = go (of-map (messageOf tb e) ss (m .there))
+    where
+      go : Some (λ s. messageOf tb e s ≡ m .it) ss → ⊥
+      go s = is-not-aborted (s .it .name) (o (s .it) (s .there)) (rw (← s .holds) at (m .holds .1))
+
+  pub quiet : Only notCommitted ss → Only notAborted ss → Quiet t (map (messageOf tb e) ss)
+  quiet a b = record { no-committed = none-committed a; no-aborted = none-aborted b }
+
+  -- verdicts are about the event's transaction alone
+  pub quiet-other : (t ≡ subjectOf tb e → ⊥) → Addressed tb e ss → Quiet t (map (messageOf tb e) ss)
+  unfolding messageOf
+  quiet-other d ad = record { no-committed = λ m. committed m (of-map (messageOf tb e) ss (m .there)); no-aborted = λ m. aborted m (of-map (messageOf tb e) ss (m .there)) }
+    where
+      committed : (m : New t Committed (map (messageOf tb e) ss)) → Some (λ s. messageOf tb e s ≡ m .it) ss → ⊥
+      committed m s = by-either (λ w. d (sym (m .holds .0) ∙ sym (ap (λ (m : Message). m .about) (s .holds)) ∙ w)) (λ w. is-not-committed (s .it .name) (w .0) (rw (← s .holds) at (m .holds .1))) (ad (s .it) (s .there))
+
+      aborted : (m : New t Aborted (map (messageOf tb e) ss)) → Some (λ s. messageOf tb e s ≡ m .it) ss → ⊥
+      aborted m s = by-either (λ w. d (sym (m .holds .0) ∙ sym (ap (λ (m : Message). m .about) (s .holds)) ∙ w)) (λ w. is-not-aborted (s .it .name) (w .1) (rw (← s .holds) at (m .holds .1))) (ad (s .it) (s .there))

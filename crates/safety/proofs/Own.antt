@@ -1,0 +1,403 @@
+-- What is shown of what an event does: it is a move of its own transaction, and leaves every other one alone. Here of the parts that
+-- the events share: abort, decide, the end, start of phase one.
+use Prim.Native.Nat.{ℕ, _+_, _*_, _-_, _≤_, _<_}
+use native.Mathlib.Omega.{arith}
+use mathlib.Core.Path.{_≡_, refl, sym, _∙_, ap, ap₂}
+use mathlib.Core.Logic.{_⊎_, inl, inr}
+use mathlib.Core.Bool.{Bool, true, false, cond, _&&_}
+use mathlib.Core.List.{List, [], _∷_, _++_, map, append-nil, List·Memᴰ·head, List·Memᴰ·cases-cons, List·Memᴰ·not-nil, Memᴰ·cast}
+use lib.ListN.{length, take, length-append, length-map}
+use lib.Dec.{eqb}
+use borrow.Author.Tests.{eqb-true, eqb-false, eq-eqb, ne-eqb, ltb-false}
+use Rattle.lists.specs.Members.{_∈_, Each, Some}
+use Rattle.lists.specs.Lists.{all, any, none, filter}
+use Rattle.lists.specs.Sorting.{insertBy, sortBy}
+use Rattle.lists.proofs.Tests.{by-test, by-either, no-clash, true-and, not-true, not-false, in-filter, of-filter, length-filter, in-map, all-each, any-some, none-each, each-nothing, each-more, each-head, each-rest, each-map}
+use Rattle.lists.proofs.Sorting.{in-sort, of-sort, length-sort}
+use Rattle.rules.specs.declared.Enlistment.{Enlistment}
+use Rattle.rules.specs.declared.Table.{Table}
+use Rattle.rules.specs.declared.Event.{Event}
+use Rattle.rules.specs.declared.Signal.{Signal}
+use Rattle.rules.specs.declared.Name.the-variants as name
+use Rattle.rules.specs.Kinds as kind
+use Rattle.rules.specs.TransactionState as transaction
+use Rattle.rules.specs.EnlistmentState as enlistment
+use Rattle.rules.specs.Sizes.{identifierSize, largestNumber, heldMost, entrySize}
+use Rattle.rules.specs.Identifiers.{Id, sameBytes}
+use Rattle.rules.specs.Table.{transactionAt, stateAt, idAt, held, isDurable, isMarked, isIn, isDone, inState, changeHeld, changeTransaction, goTo, emptied, useMore}
+use Rattle.rules.specs.Sound.{openCount, Durable}
+use Rattle.rules.specs.Log.{Entry, Record, low4, recordBytes, entryBytes, entriesBytes, allBytes, commitSize, forgetSize, written}
+use Rattle.rules.specs.Signals.{byNumber, signal, toEach, toApp}
+use Rattle.rules.specs.Events.{Outcome, quietly, saying, append, endOf, endIfDone, hearsAbort, abortedOf, abortOf, entryOf, commitRecord, lacksRoom, committedOf, commitSignals, committing, endCommitted, decideOf, startPhaseOne}
+use Rattle.rules.proofs.Identifiers.{same-refl, other-not-same}
+use Rattle.rules.proofs.Records.{ValidEntry, Valid, valid-commit, valid-forget}
+use Rattle.rules.proofs.Frames.{Keeps, held-came, held-own, named-is, named-other, written-used, Stands, stands-goes, state-goes}
+use Rattle.safety.specs.World.{Note, noteOf, messageOf, subjectOf}
+use Rattle.safety.specs.Host.{Prepares, Closes, careful, Makes}
+use Rattle.safety.specs.Demand3.{Committed}
+use Rattle.safety.proofs.Alone as alone
+use Rattle.safety.proofs.Alone.{Story, closed, early, voting, aborting, Hopes, Waits, Unasked, Preparing, NoDurable, New}
+use Rattle.safety.proofs.Move.{Calm, NotEnlisted, VoteOf, Doomed, d-voting, d-aborting, g-out, g-aborting, Move, prepare, ask-one, commit-empty, decide-logged, decide-unlogged, decide-empty, abort, told-on, end-logged, end-unlogged}
+use Rattle.safety.proofs.Top.{Agrees}
+use Rattle.safety.proofs.Story.{next, story, managersOf, onForget}
+use Rattle.safety.proofs.View.{viewOf, view-goes, goes-other, view-ends, ends-other, view-more, stands-held}
+use Rattle.safety.proofs.Messages.{notCommitted, notAborted, Only, only-nothing, only-one, only-each, only-both, Addressed, Owned, owned-about, addressed-nothing, addressed-one, addressed-each, addressed-both, none-committed, none-aborted, quiet}
+
+pub by-cases : {A : Type 0} (P : A → Type 0) (b : Bool) (x y : A) → (b ≡ true → P x) → (b ≡ false → P y) → P (cond b x y)
+by-cases P true x y f g = f refl
+by-cases P false x y f g = g refl
+
+-- ── what is shown of an outcome ─────────────────────────────────────────────────────────────────────────────────
+
+pub record Own (tb : Table) (e : Event) (log : List ℕ) (t : Id) (o : Outcome) : Type 0 where
+  pub records : List Record
+  pub valid : Each Valid records
+  pub bytes : take (o .table .used) (o .log) ≡ take (tb .used) log ++ allBytes records
+  pub other-story : (u : Id) → (u ≡ t → ⊥) → (s : Story) → story u s records ≡ s
+  pub other-view : (u : Id) → (u ≡ t → ⊥) → viewOf u (o .table) ≡ viewOf u tb
+  pub addressed : Addressed tb e (o .signals)
+  pub move : (h : List Note) → Makes careful h e → (l : Story) → Agrees (viewOf t tb) l
+      → Move t h (noteOf tb e) (map (messageOf tb e) (o .signals)) l (story t l records) (viewOf t tb) (viewOf t (o .table))
+
+-- ── ends of which no record is written ──────────────────────────────────────────────────────────────────────────
+
+pub used-emptied : (p : ℕ) (tb : Table) → emptied p tb .used ≡ tb .used
+unfolding changeHeld changeTransaction
+used-emptied p tb = refl
+
+pub used-goes : (p s : ℕ) (f : Enlistment → Enlistment) (tb : Table) → goTo p s (changeHeld p f tb) .used ≡ tb .used
+unfolding changeHeld changeTransaction
+used-goes p s f tb = refl
+
+pub ends-for : (t : Id) (p : ℕ) (tb : Table) → Stands t p tb → (u : Id) → (u ≡ t → ⊥) → viewOf u (emptied p tb) ≡ viewOf u tb
+ends-for t p tb s u d = ends-other u p tb (named-other t u (transactionAt p tb) (s .here) d)
+
+pub unlogged-end : (p : ℕ) (tb : Table) (log : List ℕ) → (stateAt p tb ≡ transaction.committing → ⊥) → endOf p tb log ≡ quietly (emptied p tb) log
+unfolding endOf
+unlogged-end p tb log n = rw (ne-eqb (stateAt p tb) transaction.committing n) refl
+
+-- ── what an event does to its own transaction ───────────────────────────────────────────────────────────────────
+
+-- the table after the event's own enlistment has changed
+pub record Touched (t : Id) (p : ℕ) (tb tb₁ : Table) : Type 0 where
+  pub used : tb₁ .used ≡ tb .used
+  pub capacity : tb₁ .capacity ≡ tb .capacity
+  pub stands : Stands t p tb₁
+  pub other-view : (u : Id) → (u ≡ t → ⊥) → viewOf u tb₁ ≡ viewOf u tb
+  pub sized : Each (λ x. (length (x .rm .0) ≡ identifierSize) × (x .number ≤ largestNumber)) (held p tb₁)
+  pub few : length (held p tb₁) ≤ heldMost
+  pub owned : Each (λ x. Owned tb t (x .number)) (held p tb₁)
+
+module _ (tb : Table) (e : Event) (log : List ℕ) (t : Id) (p : ℕ) (tb₁ : Table) (z : Touched t p tb tb₁) (about : subjectOf tb e ≡ t) where
+  abbrev pub hs₁ : List Enlistment
+  hs₁ = held p tb₁
+
+  abbrev O : Outcome → Type 0
+  O = Own tb e log t
+
+  abbrev Moves : List Signal → Table → Type 0
+  Moves ss tb₂ = (h : List Note) → Makes careful h e → (l : Story) → Agrees (viewOf t tb) l → Move t h (noteOf tb e) (map (messageOf tb e) ss) l l (viewOf t tb) (viewOf t tb₂)
+
+  home : Each (λ x. Owned tb (subjectOf tb e) (x .number)) hs₁
+  home x m = rw about (z .owned x m)
+
+  nothing-added : take (tb .used) log ≡ take (tb .used) log ++ allBytes []
+  unfolding allBytes
+  nothing-added = sym (append-nil (take (tb .used) log))
+
+  -- an outcome that writes nothing
+  pub unlogged : (tb₂ : Table) (ss : List Signal) → Addressed tb e ss → tb₂ .used ≡ tb₁ .used → ((u : Id) → (u ≡ t → ⊥) → viewOf u tb₂ ≡ viewOf u tb₁) → Moves ss tb₂
+      → Own tb e log t (record { table = tb₂; log = log; signals = ss })
+  unfolding story
+  unlogged tb₂ ss ad us ov mv = record {
+    records = [];
+    valid = each-nothing Valid;
+    bytes = rw (us ∙ z .used) nothing-added;
+    other-story = λ u d s. refl;
+    other-view = λ u d. ov u d ∙ z .other-view u d;
+    addressed = ad;
+    move = mv;
+  }
+
+  -- ── abort ─────────────────────────────────────────────────────────────────────────────────────────────────────
+
+  keeps-aborted : Keeps abortedOf
+  unfolding abortedOf
+  keeps-aborted x = by-test (hearsAbort x) (λ b. rw b (inl refl)) (λ b. by-test (isIn enlistment.preparedLost x) (λ c. rw (b, c) (inl refl)) (λ c. rw (b, c) (inl refl)))
+
+  pub own-abort : Doomed t (viewOf t tb) → O (abortOf p tb₁ log)
+  unfolding abortOf endIfDone
+  own-abort d = rw (unlogged-end p tb₂ log (λ q. six-five (sym (state-goes t p transaction.aborting (changeHeld p abortedOf tb₁) (stands-held t p p abortedOf tb₁ (z .stands))) ∙ q)))
+      (by-cases (λ o. O (saying ss o)) (all isDone (held p tb₂)) (quietly (emptied p tb₂) log) (quietly tb₂ log)
+      (λ _. unlogged (emptied p tb₂) ss addressed (used-emptied p tb₂ ∙ used-goes p transaction.aborting abortedOf tb₁) (λ u n. ends-for t p tb₂ at u n ∙ others u n)
+      (λ h f l a. rw (view-ends t p tb₂ at) (abort refl d g-out silent)))
+      (λ _. unlogged tb₂ ss addressed (used-goes p transaction.aborting abortedOf tb₁) others
+      (λ h f l a. rw (view-goes t p tb₁ (z .stands) transaction.aborting abortedOf (λ q. omega arith)) (abort refl d g-aborting silent))))
+    where
+      tb₂ : Table
+      tb₂ = goTo p transaction.aborting (changeHeld p abortedOf tb₁)
+
+      at : Stands t p tb₂
+      at = stands-goes t p transaction.aborting (changeHeld p abortedOf tb₁) (stands-held t p p abortedOf tb₁ (z .stands)) (λ q. omega arith)
+
+      six-five : _≡_ {A = ℕ} transaction.aborting transaction.committing → ⊥
+      six-five q = omega arith
+
+      hs : List Enlistment
+      hs = filter hearsAbort hs₁
+
+      ss : List Signal
+      ss = toEach name.Abort hs ++ toApp name.AppAborted
+
+      addressed : Addressed tb e ss
+      addressed = addressed-both tb e (toEach name.Abort hs) (toApp name.AppAborted) (addressed-each tb e name.Abort hs (λ x m. home x (of-filter hearsAbort hs₁ m .0))) (addressed-one tb e name.AppAborted 0 (inl refl))
+
+      others : (u : Id) → (u ≡ t → ⊥) → viewOf u tb₂ ≡ viewOf u tb₁
+      others u n = goes-other t p tb₁ (z .stands) transaction.aborting abortedOf u keeps-aborted n
+
+      silent : New t Committed (map (messageOf tb e) ss) → ⊥
+      silent = none-committed t tb e ss (only-both notCommitted (toEach name.Abort hs) (toApp name.AppAborted) (only-each notCommitted name.Abort hs refl) (only-one notCommitted name.AppAborted 0 refl))
+
+  -- ── decide ────────────────────────────────────────────────────────────────────────────────────────────────────
+
+  -- what the vote has done
+  pub record Voted (hs : List Enlistment) (x : Note) : Type 0 where
+    pub calm : NotEnlisted t x
+    pub preparing : (n : ℕ) → Some (Preparing n) hs → VoteOf t n x ⊎ Some (Preparing n) hs₁
+    pub hopes : (r : Id) → Some (Hopes r) hs → Some (Hopes r) hs₁
+    pub prepares : (r : Id) → Prepares t r x → Some (Hopes r) hs₁
+
+  committed-kept : (x : Enlistment) → (committedOf x .holder ≡ x .holder) × (committedOf x .kind ≡ x .kind)
+  unfolding committedOf
+  committed-kept x = by-cases (λ (y : Enlistment). (y .holder ≡ x .holder) × (y .kind ≡ x .kind)) (isIn enlistment.prepared x) _ _ (λ _. (refl, refl)) (λ _.
+      by-cases (λ (y : Enlistment). (y .holder ≡ x .holder) × (y .kind ≡ x .kind)) (isIn enlistment.preparedLost x) (inState enlistment.failedToNotify x) x (λ _. (refl, refl)) (λ _. (refl, refl)))
+
+  keeps-committed : Keeps committedOf
+  keeps-committed x = inl (committed-kept x .0)
+
+  commit-waits : (r : Id) (x : Enlistment) → Hopes r x → Waits r (committedOf x)
+  unfolding committedOf
+  commit-waits r x h = by-cases (Waits r) (isIn enlistment.prepared x) _ _ (λ _. (h .0, h .1, inl refl)) (λ b.
+      by-cases (Waits r) (isIn enlistment.preparedLost x) (inState enlistment.failedToNotify x) x (λ _. (h .0, h .1, inr refl)) (λ c.
+      absurd (by-either (λ q. eqb-false (x .state) enlistment.prepared b q) (λ q. eqb-false (x .state) enlistment.preparedLost c q) (h .2))))
+
+  empty-some : (hs : List Enlistment) (P : Enlistment → Type 0) → eqb (length hs) 0 ≡ true → Some P hs → ⊥
+  empty-some [] P e s = List·Memᴰ·not-nil (s .there)
+  empty-some (x ∷ hs) P e s = omega (arith, eqb-true (length (x ∷ hs)) 0 e)
+
+  commit-not-aborted : Only notAborted (commitSignals hs₁)
+  unfolding commitSignals
+  commit-not-aborted = only-both notAborted (toEach name.Commit (filter (isIn enlistment.prepared) hs₁)) (toApp name.AppCommitted)
+      (only-each notAborted name.Commit (filter (isIn enlistment.prepared) hs₁) refl) (only-one notAborted name.AppCommitted 0 refl)
+
+  commit-home : Addressed tb e (commitSignals hs₁)
+  unfolding commitSignals
+  commit-home = addressed-both tb e (toEach name.Commit (filter (isIn enlistment.prepared) hs₁)) (toApp name.AppCommitted)
+      (addressed-each tb e name.Commit (filter (isIn enlistment.prepared) hs₁) (λ x m. home x (of-filter (isIn enlistment.prepared) hs₁ m .0))) (addressed-one tb e name.AppCommitted 0 (inl refl))
+
+  entries-valid : (es : List Enlistment) → Each (λ x. (length (x .rm .0) ≡ identifierSize) × (x .number ≤ largestNumber)) es → Each ValidEntry (map entryOf es)
+  entries-valid es f = each-map entryOf ValidEntry es (λ x m. record { rm-size = f x m .0; number-small = f x m .1 })
+
+  entries-size : (es : List Entry) → Each ValidEntry es → length (entriesBytes es) ≡ entrySize * length es
+  unfolding entriesBytes
+  entries-size [] v = refl
+  entries-size (x ∷ es) v = rw (length-append (entryBytes x) (entriesBytes es), length-append (x .rm) (low4 (x .number)), each-head v .rm-size, entries-size es (each-rest v)) (omega arith)
+
+  no-durable-of : (hs : List Enlistment) → any isDurable hs ≡ false → NoDurable hs
+  no-durable-of hs n x m k = no-clash (isDurable x) (eq-eqb (x .kind) kind.durable k) (none-each isDurable hs n x m)
+
+  some-durable-of : (hs : List Enlistment) → any isDurable hs ≡ true → Some Durable hs
+  some-durable-of hs d = let s : Some (λ x. isDurable x ≡ true) hs = any-some isDurable hs d in record { it = s .it; there = s .there; holds = eqb-true (s .it .kind) kind.durable (s .holds) }
+
+  -- one name is not another
+  not-same : (u : Id) → (u ≡ t → ⊥) → sameBytes t u ≡ false
+  not-same u n = other-not-same t u (λ q. n (sym q))
+
+  own-id : idAt p tb₁ ≡ t
+  own-id = named-is t (transactionAt p tb₁) (z .stands .here) .1
+
+  module _ (hs : List Enlistment) (isv : viewOf t tb ≡ voting hs) (id-size : length t ≡ identifierSize) (v : Voted hs (noteOf tb e)) (last : any (isIn enlistment.preparing) hs₁ ≡ false) where
+    all-voted : (n : ℕ) → Some (Preparing n) hs → VoteOf t n (noteOf tb e)
+    all-voted n h = by-either (λ y. y) (λ w. no-clash (isIn enlistment.preparing (w .it)) (eq-eqb (w .it .state) enlistment.preparing (w .holds .1)) (none-each (isIn enlistment.preparing) hs₁ last (w .it) (w .there))) (v .preparing n h)
+
+    hoping : (r : Id) → Some (Hopes r) hs ⊎ Prepares t r (noteOf tb e) → Some (Hopes r) hs₁
+    hoping r = by-either (v .hopes r) (v .prepares r)
+
+    decide-none : (stateAt p tb₁ ≡ transaction.committing → ⊥) → eqb (length hs₁) 0 ≡ true → O (endCommitted p tb₁ log)
+    unfolding endCommitted
+    decide-none nc nil = rw (unlogged-end p tb₁ log nc) (unlogged (emptied p tb₁) (toApp name.AppCommitted) (addressed-one tb e name.AppCommitted 0 (inl refl)) (used-emptied p tb₁) (ends-for t p tb₁ (z .stands))
+        (λ h f l a. rw (isv, view-ends t p tb₁ (z .stands)) (decide-empty refl (v .calm) (none-aborted t tb e (toApp name.AppCommitted) (only-one notAborted name.AppCommitted 0 refl)) all-voted (λ r w. empty-some hs₁ (Hopes r) nil (hoping r w)))))
+
+    decide-volatile : any isDurable hs₁ ≡ false → O (saying (commitSignals hs₁) (quietly (committing p tb₁) log))
+    decide-volatile nd = unlogged (committing p tb₁) (commitSignals hs₁) commit-home (used-goes p transaction.committing committedOf tb₁) (λ u n. goes-other t p tb₁ (z .stands) transaction.committing committedOf u keeps-committed n)
+        (λ h f l a. rw (isv, view-goes t p tb₁ (z .stands) transaction.committing committedOf (λ q. omega arith))
+        (decide-unlogged refl (v .calm) (none-aborted t tb e (commitSignals hs₁) commit-not-aborted) all-voted
+        (λ r w. let y : Some (Hopes r) hs₁ = hoping r w in no-durable-of hs₁ nd (y .it) (y .there) (y .holds .0))
+        (λ x m k. let c : Some (λ y. x ≡ committedOf y) hs₁ = held-came p committedOf tb₁ m in no-durable-of hs₁ nd (c .it) (c .there) (sym (committed-kept (c .it) .1) ∙ sym (ap (λ (y : Enlistment). y .kind) (c .holds)) ∙ k))))
+
+    module _ (d : any isDurable hs₁ ≡ true) (fits : tb₁ .used + commitSize (length (filter isDurable hs₁)) ≤ length log) where
+      ds : List Enlistment
+      ds = sortBy byNumber (filter isDurable hs₁)
+
+      entries : List Entry
+      entries = map entryOf ds
+
+      durables : Some Durable hs₁
+      durables = some-durable-of hs₁ d
+
+      positive : {x : Enlistment} (l : List Enlistment) → x ∈ l → 0 < length l
+      positive [] m = absurd (List·Memᴰ·not-nil m)
+      positive (y ∷ l) m = omega arith
+
+      as-many : length entries ≡ length (filter isDurable hs₁)
+      unfolding entries ds
+      as-many = length-map ds entryOf ∙ length-sort byNumber (filter isDurable hs₁)
+
+      entries-ok : Each ValidEntry entries
+      unfolding entries ds
+      entries-ok = entries-valid ds (λ x m. z .sized x (of-filter isDurable hs₁ (of-sort byNumber (filter isDurable hs₁) m) .0))
+
+      ok : Valid (Record.commit t entries)
+      ok = valid-commit {es = entries} id-size (rw as-many (positive (filter isDurable hs₁) (in-filter isDurable hs₁ (durables .there) (eq-eqb (durables .it .kind) kind.durable (durables .holds)))))
+          (rw as-many (omega (arith, length-filter isDurable hs₁, z .few))) entries-ok
+
+      listed : (q : Id) → Some (Hopes q) hs₁ → q ∈ managersOf entries
+      unfolding entries ds
+      listed q w = Memᴰ·cast (sym (w .holds .1)) (in-map (λ e. e .rm) (in-map entryOf (in-sort byNumber (filter isDurable hs₁) (in-filter isDurable hs₁ (w .there) (eq-eqb (w .it .kind) kind.durable (w .holds .0))))))
+
+      size : length (recordBytes (Record.commit t entries)) ≡ commitSize (length (filter isDurable hs₁))
+      unfolding recordBytes
+      size = rw (length-append t (entriesBytes entries), id-size, entries-size entries entries-ok, as-many) (omega arith)
+
+      decide-durable : O (saying (commitSignals hs₁) (append (commitRecord (idAt p tb₁) hs₁) (committing p tb₁) log))
+      unfolding append commitRecord useMore story next allBytes entries ds
+      decide-durable = rw own-id (record {
+        records = Record.commit t entries ∷ [];
+        valid = each-more ok (each-nothing Valid);
+        bytes = ap (λ n. take (n + length bs) (written n bs log)) (used-goes p transaction.committing committedOf tb₁) ∙ written-used (tb₁ .used) bs log (rw size fits) ∙ ap₂ (λ n l. take n log ++ l) (z .used) (sym (append-nil bs));
+        other-story = λ u n s. rw (not-same u n) refl;
+        other-view = λ u n. view-more u (length bs) (committing p tb₁) ∙ goes-other t p tb₁ (z .stands) transaction.committing committedOf u keeps-committed n ∙ z .other-view u n;
+        addressed = commit-home;
+        move = λ h f l a. rw (isv, view-more t (length bs) (committing p tb₁) ∙ view-goes t p tb₁ (z .stands) transaction.committing committedOf (λ q. omega arith))
+            (decide-logged {rs = managersOf entries} (rw (same-refl t, rw isv at a) refl) (v .calm) (none-aborted t tb e (commitSignals hs₁) commit-not-aborted) all-voted
+            (λ q w. (held-own (Hopes q) (Waits q) p committedOf tb₁ (λ x _ y. (commit-waits q x y, committed-kept x .0)) (hoping q w), listed q (hoping q w)))
+            (held-own Durable Durable p committedOf tb₁ (λ x _ k. (committed-kept x .1 ∙ k, committed-kept x .0)) durables));
+      })
+        where
+          bs : List ℕ
+          bs = recordBytes (Record.commit t entries)
+
+    roomy : length log ≡ tb₁ .capacity → (n : ℕ) → lacksRoom n tb₁ ≡ false → tb₁ .used ≤ tb₁ .capacity → tb₁ .used + commitSize n ≤ length log
+    unfolding lacksRoom
+    roomy full n e low = rw full (omega (arith, ltb-false (tb₁ .capacity - tb₁ .used) (commitSize n + forgetSize * (1 + openCount tb₁)) e))
+
+    pub own-decide : length log ≡ tb₁ .capacity → tb₁ .used ≤ tb₁ .capacity → (stateAt p tb₁ ≡ transaction.committing → ⊥) → O (decideOf p tb₁ log)
+    unfolding decideOf
+    own-decide full low nc = by-cases O (eqb (length hs₁) 0) _ _ (decide-none nc) (λ _. by-cases O (none isDurable hs₁) _ _ (λ n. decide-volatile (not-true (any isDurable hs₁) n)) (λ d.
+        by-cases O (lacksRoom (length (filter isDurable hs₁)) tb₁) _ _ (λ _. own-abort (rw isv d-voting))
+        (λ r. decide-durable (not-false (any isDurable hs₁) d) (roomy full (length (filter isDurable hs₁)) r low))))
+
+  -- ── the end ───────────────────────────────────────────────────────────────────────────────────────────────────
+
+  -- after an abort nothing is written
+  pub own-end-aborting : viewOf t tb ≡ aborting → stateAt p tb₁ ≡ transaction.aborting → viewOf t tb₁ ≡ aborting → O (endIfDone p tb₁ log)
+  unfolding endIfDone
+  own-end-aborting isv st isv₁ = rw (unlogged-end p tb₁ log (λ q. omega (arith, st, q))) (by-cases O (all isDone hs₁) (quietly (emptied p tb₁) log) (quietly tb₁ log)
+      (λ _. unlogged (emptied p tb₁) [] (addressed-nothing tb e) (used-emptied p tb₁) (ends-for t p tb₁ (z .stands))
+      (λ h f l a. rw (isv, view-ends t p tb₁ (z .stands)) (abort refl d-aborting g-out (none-committed t tb e [] (only-nothing notCommitted)))))
+      (λ _. unlogged tb₁ [] (addressed-nothing tb e) refl (λ u n. refl) (λ h f l a. rw (isv, isv₁) (abort refl d-aborting g-aborting (none-committed t tb e [] (only-nothing notCommitted))))))
+
+  -- what an event after the decision to commit has done
+  pub record Told (hs : List Enlistment) (x : Note) : Type 0 where
+    pub calm : Calm t x
+    pub waits : (r : Id) → Some (Waits r) hs → Some (Waits r) hs₁ ⊎ Closes t r x
+    pub durable : Some Durable hs → Some Durable hs₁
+    pub no-durable : NoDurable hs → NoDurable hs₁
+
+  module _ (hs : List Enlistment) (isv : viewOf t tb ≡ alone.committing hs) (st : stateAt p tb₁ ≡ transaction.committing) (w : Told hs (noteOf tb e)) (id-size : length t ≡ identifierSize) where
+    not-done : (r : Id) (x : Enlistment) → Waits r x → x .state ≡ enlistment.done → ⊥
+    not-done r x q d = by-either (λ y. omega arith) (λ y. omega arith) (q .2)
+
+    closing : all isDone hs₁ ≡ true → (r : Id) → Some (Waits r) hs₁ ⊎ Closes t r (noteOf tb e) → Closes t r (noteOf tb e)
+    closing dn r (inl y) = absurd (not-done r (y .it) (y .holds) (eqb-true (y .it .state) enlistment.done (all-each isDone hs₁ dn (y .it) (y .there))))
+    closing dn r (inr c) = c
+
+    closes : (l : Story) → Agrees (alone.committing hs) l → Some Durable hs₁ → onForget l ≡ closed
+    closes l (inl (rs, q, y)) d = rw q refl
+    closes l (inr (q, y)) d = absurd (w .no-durable y (d .it) (d .there) (d .holds))
+
+    end-durable : any isDurable hs₁ ≡ true → all isDone hs₁ ≡ true → tb₁ .used + forgetSize ≤ length log → O (append (Record.forget (idAt p tb₁)) (emptied p tb₁) log)
+    unfolding append useMore story next allBytes recordBytes
+    end-durable d dn fits = rw own-id (record {
+      records = Record.forget t ∷ [];
+      valid = each-more (valid-forget id-size) (each-nothing Valid);
+      bytes = ap (λ n. take (n + length bs) (written n bs log)) (used-emptied p tb₁) ∙ written-used (tb₁ .used) bs log (omega (arith, fits, size)) ∙ ap₂ (λ n l. take n log ++ l) (z .used) (sym (append-nil bs));
+      other-story = λ u n s. rw (not-same u n) refl;
+      other-view = λ u n. view-more u (length bs) (emptied p tb₁) ∙ ends-for t p tb₁ (z .stands) u n ∙ z .other-view u n;
+      addressed = addressed-nothing tb e;
+      move = λ h f l a. rw (same-refl t, isv, view-more t (length bs) (emptied p tb₁) ∙ view-ends t p tb₁ (z .stands))
+          (end-logged (closes l (rw isv at a) (some-durable-of hs₁ d)) (w .calm) (quiet t tb e [] (only-nothing notCommitted) (only-nothing notAborted)) (λ r y. closing dn r (w .waits r y)));
+    })
+      where
+        bs : List ℕ
+        bs = recordBytes (Record.forget t)
+
+        size : length bs ≡ forgetSize
+        size = rw id-size refl
+
+    end-volatile : any isDurable hs₁ ≡ false → O (quietly (emptied p tb₁) log)
+    end-volatile n = unlogged (emptied p tb₁) [] (addressed-nothing tb e) (used-emptied p tb₁) (ends-for t p tb₁ (z .stands))
+        (λ h f l a. rw (isv, view-ends t p tb₁ (z .stands)) (end-unlogged refl (w .calm) (quiet t tb e [] (only-nothing notCommitted) (only-nothing notAborted))
+        (λ x m k. let d : Some Durable hs₁ = w .durable (record { it = x; there = m; holds = k }) in no-durable-of hs₁ n (d .it) (d .there) (d .holds))))
+
+    end-waits : viewOf t tb₁ ≡ alone.committing hs₁ → O (quietly tb₁ log)
+    end-waits isv₁ = unlogged tb₁ [] (addressed-nothing tb e) refl (λ u n. refl)
+        (λ h f l a. rw (isv, isv₁) (told-on refl (w .calm) (none-aborted t tb e [] (only-nothing notAborted)) (w .waits) (w .durable) (w .no-durable)))
+
+    pub own-end-committing : viewOf t tb₁ ≡ alone.committing hs₁ → (any isDurable hs₁ ≡ true → tb₁ .used + forgetSize ≤ length log) → O (endIfDone p tb₁ log)
+    unfolding endIfDone endOf
+    own-end-committing isv₁ fits = rw st (by-cases O (all isDone hs₁) _ _
+        (λ dn. by-cases O (any isDurable hs₁) _ _ (λ d. end-durable d dn (fits d)) end-volatile)
+        (λ _. end-waits isv₁))
+
+  -- ── start of phase one ────────────────────────────────────────────────────────────────────────────────────────
+
+  keeps-state : (s : ℕ) → Keeps (inState s)
+  keeps-state s x = inl refl
+
+  module _ (hs : List Enlistment) (isv : viewOf t tb ≡ early hs) (calm : Calm t (noteOf tb e)) (unasked : (m : ℕ) → Some (Unasked m) hs → Some (Unasked m) hs₁) where
+    start-none : (stateAt p tb₁ ≡ transaction.committing → ⊥) → eqb (length hs₁) 0 ≡ true → O (endCommitted p tb₁ log)
+    unfolding endCommitted
+    start-none nc nil = rw (unlogged-end p tb₁ log nc) (unlogged (emptied p tb₁) (toApp name.AppCommitted) (addressed-one tb e name.AppCommitted 0 (inl refl)) (used-emptied p tb₁) (ends-for t p tb₁ (z .stands))
+        (λ h f l a. rw (isv, view-ends t p tb₁ (z .stands)) (commit-empty refl calm (none-aborted t tb e (toApp name.AppCommitted) (only-one notAborted name.AppCommitted 0 refl)) (λ m w. empty-some hs₁ (Unasked m) nil (unasked m w)))))
+
+    start-one : (es : List Enlistment) → hs₁ ≡ es → eqb (length es) 1 ≡ true → O (saying (toEach name.Single hs₁) (quietly (goTo p transaction.singlePhase (changeHeld p (inState enlistment.onePhase) tb₁)) log))
+    unfolding messageOf toEach sortBy insertBy
+    start-one [] q o = absurd (omega (arith, eqb-true 0 1 o))
+    start-one (x ∷ y ∷ es) q o = absurd (omega (arith, eqb-true (length (x ∷ y ∷ es)) 1 o))
+    start-one (x ∷ []) q o = unlogged (goTo p transaction.singlePhase (changeHeld p (inState enlistment.onePhase) tb₁)) (toEach name.Single hs₁) (addressed-each tb e name.Single hs₁ home) (used-goes p transaction.singlePhase (inState enlistment.onePhase) tb₁) (λ u n. goes-other t p tb₁ (z .stands) transaction.singlePhase (inState enlistment.onePhase) u (keeps-state enlistment.onePhase) n)
+        (λ h f l a. rw (isv, view-goes t p tb₁ (z .stands) transaction.singlePhase (inState enlistment.onePhase) (λ q. omega arith))
+        (ask-one {n₀ = x .number} refl calm (quiet t tb e (toEach name.Single hs₁) (only-each notCommitted name.Single hs₁ refl) (only-each notAborted name.Single hs₁ refl))
+        (λ m w. let y : Some (Unasked m) hs₁ = unasked m w in sym (y .holds .0) ∙ only (y .it) (y .there))
+        (λ y m. let c : Some (λ w. y ≡ inState enlistment.onePhase w) hs₁ = held-came p (inState enlistment.onePhase) tb₁ m in ap (λ (y : Enlistment). y .number) (c .holds) ∙ only (c .it) (c .there))
+        (there q)))
+      where
+        only : (y : Enlistment) → y ∈ hs₁ → y .number ≡ x .number
+        only y m = ap (λ (y : Enlistment). y .number) (by-either (λ r. r) (λ r. absurd (List·Memᴰ·not-nil r)) (List·Memᴰ·cases-cons (rw q at m)))
+
+        mine : t ≡ messageOf tb e (signal name.Single (x .number)) .about
+        mine = sym about ∙ sym (owned-about tb e name.Single (x .number) (home x (rw q (List·Memᴰ·head refl))))
+
+        there : hs₁ ≡ x ∷ [] → record { about = t; name = name.Single; number = x .number } ∈ map (messageOf tb e) (toEach name.Single hs₁)
+        there q = rw q (List·Memᴰ·head (λ i. record { about = mine i; name = name.Single; number = x .number }))
+
+    start-many : O (saying (toEach name.Prepare hs₁) (quietly (goTo p transaction.phaseOne (changeHeld p (inState enlistment.preparing) tb₁)) log))
+    start-many = unlogged (goTo p transaction.phaseOne (changeHeld p (inState enlistment.preparing) tb₁)) (toEach name.Prepare hs₁) (addressed-each tb e name.Prepare hs₁ home) (used-goes p transaction.phaseOne (inState enlistment.preparing) tb₁) (λ u n. goes-other t p tb₁ (z .stands) transaction.phaseOne (inState enlistment.preparing) u (keeps-state enlistment.preparing) n)
+        (λ h f l a. rw (isv, view-goes t p tb₁ (z .stands) transaction.phaseOne (inState enlistment.preparing) (λ q. omega arith))
+        (prepare refl calm (quiet t tb e (toEach name.Prepare hs₁) (only-each notCommitted name.Prepare hs₁ refl) (only-each notAborted name.Prepare hs₁ refl))
+        (λ m w. held-own (Unasked m) (Preparing m) p (inState enlistment.preparing) tb₁ (λ x _ u. ((u .0, refl), refl)) (unasked m w))))
+
+    pub own-start : (stateAt p tb₁ ≡ transaction.committing → ⊥) → O (startPhaseOne p tb₁ log)
+    unfolding startPhaseOne
+    own-start nc = by-cases O (eqb (length hs₁) 0) _ _ (start-none nc) (λ _. by-cases O (eqb (length hs₁) 1 && all isMarked hs₁) _ _
+        (λ o. start-one hs₁ refl (true-and (eqb (length hs₁) 1) (all isMarked hs₁) o .0)) (λ _. start-many))

@@ -1,0 +1,540 @@
+-- The events about one enlistment: what each reaction is to the transaction that holds it.
+use Prim.Native.Nat.{ℕ, _+_, _≤_}
+use native.Mathlib.Omega.{arith}
+use native.Mathlib.Decide.{ℕ-discrete}
+use mathlib.Core.Path.{_≡_, refl, sym, _∙_, ap, subst}
+use mathlib.Core.Logic.{_⊎_, inl, inr}
+use mathlib.Core.Bool.{true, false, _||_, true≢false}
+use mathlib.Core.List.{List, [], _∷_, map, List·Memᴰ·not-nil}
+use lib.ListN.{length}
+use lib.Dec.{eqb}
+use borrow.Author.Tests.{eqb-true, eqb-false, eq-eqb, ne-eqb}
+use Rattle.lists.specs.Members.{_∈_, Some}
+use Rattle.lists.specs.Lists.{any}
+use Rattle.lists.proofs.Tests.{by-either, true-or, not-true, any-some, some-any}
+use Rattle.lists.proofs.Places.{in-places}
+use Rattle.rules.specs.declared.Enlistment.{Enlistment}
+use Rattle.rules.specs.declared.Table.{Table}
+use Rattle.rules.specs.declared.TxId.{TxId}
+use Rattle.rules.specs.declared.RmId.{RmId}
+use Rattle.rules.specs.declared.Event.{Event}
+use Rattle.rules.specs.declared.Act.{Act}
+use Rattle.rules.specs.declared.Act.the-variants as act
+use Rattle.rules.specs.declared.Vote.{Vote}
+use Rattle.rules.specs.declared.Vote.the-variants as vote
+use Rattle.rules.specs.declared.Reply.{Reply}
+use Rattle.rules.specs.declared.Reply.the-variants as reply
+use Rattle.rules.specs.declared.Name.{Name}
+use Rattle.rules.specs.declared.Name.the-variants as name
+use Rattle.rules.specs.declared.Reaction.{Reaction}
+use Rattle.rules.specs.declared.Reaction.the-variants as reaction
+use Rattle.rules.specs.declared.FollowUp.the-variants as then
+use Rattle.rules.specs.Kinds as kind
+use Rattle.rules.specs.TransactionState as transaction
+use Rattle.rules.specs.EnlistmentState as enlistment
+use Rattle.rules.specs.Sizes.{identifierSize, largestNumber}
+use Rattle.rules.specs.Identifiers.{Id}
+use Rattle.rules.specs.Table.{noTransaction, transactionAt, stateAt, held, numbered, isNumbered, isPhaseZero, durableKind, isDurable, isIn, inState, freed, onNumber, changeHeld, changeNumber, emptied}
+use Rattle.rules.specs.Sound.{Sound, In, Durable, PhaseZero, isOpen, openPlaces}
+use Rattle.rules.specs.Log.{forgetSize}
+use Rattle.rules.specs.Signals.{toApp}
+use Rattle.rules.specs.Events.{Outcome, quietly, saying, toVote, toReply, toLost, reactionOf, follow, react}
+use Rattle.rules.specs.Refusals.{isRefused}
+use Rattle.rules.proofs.Frames.{of-held, held-came, held-own, held-shorter, named-is, named-other, named-place, not-zero, Stands}
+use Rattle.safety.specs.World.{Note, ownerOf, told, noteOf, messageOf, subjectOf}
+use Rattle.safety.specs.Host.{Prepares, Closes}
+use Rattle.safety.specs.Demand3.{Votes, Yes}
+use Rattle.safety.proofs.Alone as alone
+use Rattle.safety.proofs.Alone.{Story, Hopes, Waits, Unasked, Preparing, NoDurable}
+use Rattle.safety.proofs.Move.{Calm, NotEnlisted, VoteOf, Doomed, d-early, d-voting, d-single, g-out, Move, gather, vote-on, abort, replied, told-on}
+use Rattle.safety.proofs.Top.{Agrees}
+use Rattle.safety.proofs.View.{viewOf, look, view-stands, view-changes, view-held-other, view-ends, state-held, stands-held}
+use Rattle.safety.proofs.Given.{id-size, owner-held, Row, in-active, in-zero, in-voting, in-single, in-commit, in-abort, Named}
+use Rattle.safety.proofs.Messages.{notCommitted, notAborted, only-nothing, only-one, Owned, addressed-nothing, addressed-one, none-committed, none-aborted, quiet}
+use Rattle.safety.proofs.Own.{by-cases, Own, Touched, unlogged, unlogged-end, used-emptied, ends-for, own-abort, Voted, own-decide, own-end-aborting, own-end-committing, own-start}
+
+-- ── the state of the transaction, by that of its enlistment ─────────────────────────────────────────────────────
+
+module _ (s : ℕ) (x : Enlistment) where
+  pub of-active : Row s x → In enlistment.active x → (s ≡ transaction.active) ⊎ (s ≡ transaction.phaseZero)
+  of-active (in-active q w) i = q
+  of-active (in-zero q z w) i = absurd (omega arith)
+  of-active (in-voting q w) i = absurd (by-either (λ y. omega arith) (λ y. by-either (λ v. omega arith) (λ v. omega arith) y) w)
+  of-active (in-single q w) i = absurd (omega arith)
+  of-active (in-commit q w) i = absurd (by-either (λ y. omega arith) (λ y. by-either (λ v. omega arith) (λ v. omega arith) y) w)
+  of-active (in-abort q w) i = absurd (by-either (λ y. omega arith) (λ y. omega arith) w)
+
+  pub of-zero : Row s x → In enlistment.zero x → (s ≡ transaction.phaseZero) × PhaseZero x
+  of-zero (in-active q w) i = absurd (omega arith)
+  of-zero (in-zero q z w) i = (q, z)
+  of-zero (in-voting q w) i = absurd (by-either (λ y. omega arith) (λ y. by-either (λ v. omega arith) (λ v. omega arith) y) w)
+  of-zero (in-single q w) i = absurd (omega arith)
+  of-zero (in-commit q w) i = absurd (by-either (λ y. omega arith) (λ y. by-either (λ v. omega arith) (λ v. omega arith) y) w)
+  of-zero (in-abort q w) i = absurd (by-either (λ y. omega arith) (λ y. omega arith) w)
+
+  pub of-voting : Row s x → In enlistment.preparing x ⊎ In enlistment.prepared x → s ≡ transaction.phaseOne
+  of-voting (in-active q w) i = absurd (by-either (λ y. omega arith) (λ y. omega arith) i)
+  of-voting (in-zero q z w) i = absurd (by-either (λ y. omega arith) (λ y. omega arith) i)
+  of-voting (in-voting q w) i = q
+  of-voting (in-single q w) i = absurd (by-either (λ y. omega arith) (λ y. omega arith) i)
+  of-voting (in-commit q (inl w)) i = absurd (by-either (λ y. omega arith) (λ y. omega arith) i)
+  of-voting (in-commit q (inr (inl w))) i = absurd (by-either (λ y. omega arith) (λ y. omega arith) i)
+  of-voting (in-commit q (inr (inr w))) i = absurd (by-either (λ y. omega arith) (λ y. omega arith) i)
+  of-voting (in-abort q (inl w)) i = absurd (by-either (λ y. omega arith) (λ y. omega arith) i)
+  of-voting (in-abort q (inr w)) i = absurd (by-either (λ y. omega arith) (λ y. omega arith) i)
+
+  pub of-single : Row s x → In enlistment.onePhase x → s ≡ transaction.singlePhase
+  of-single (in-active q w) i = absurd (omega arith)
+  of-single (in-zero q z w) i = absurd (omega arith)
+  of-single (in-voting q w) i = absurd (by-either (λ y. omega arith) (λ y. by-either (λ v. omega arith) (λ v. omega arith) y) w)
+  of-single (in-single q w) i = q
+  of-single (in-commit q w) i = absurd (by-either (λ y. omega arith) (λ y. by-either (λ v. omega arith) (λ v. omega arith) y) w)
+  of-single (in-abort q w) i = absurd (by-either (λ y. omega arith) (λ y. omega arith) w)
+
+  pub of-commit : Row s x → In enlistment.toldCommit x ⊎ In enlistment.failedToNotify x → s ≡ transaction.committing
+  of-commit (in-active q w) i = absurd (by-either (λ y. omega arith) (λ y. omega arith) i)
+  of-commit (in-zero q z w) i = absurd (by-either (λ y. omega arith) (λ y. omega arith) i)
+  of-commit (in-voting q (inl w)) i = absurd (by-either (λ y. omega arith) (λ y. omega arith) i)
+  of-commit (in-voting q (inr (inl w))) i = absurd (by-either (λ y. omega arith) (λ y. omega arith) i)
+  of-commit (in-voting q (inr (inr w))) i = absurd (by-either (λ y. omega arith) (λ y. omega arith) i)
+  of-commit (in-single q w) i = absurd (by-either (λ y. omega arith) (λ y. omega arith) i)
+  of-commit (in-commit q w) i = q
+  of-commit (in-abort q (inl w)) i = absurd (by-either (λ y. omega arith) (λ y. omega arith) i)
+  of-commit (in-abort q (inr w)) i = absurd (by-either (λ y. omega arith) (λ y. omega arith) i)
+
+  pub of-abort : Row s x → In enlistment.toldAbort x → s ≡ transaction.aborting
+  of-abort (in-active q w) i = absurd (omega arith)
+  of-abort (in-zero q z w) i = absurd (omega arith)
+  of-abort (in-voting q w) i = absurd (by-either (λ y. omega arith) (λ y. by-either (λ v. omega arith) (λ v. omega arith) y) w)
+  of-abort (in-single q w) i = absurd (omega arith)
+  of-abort (in-commit q w) i = absurd (by-either (λ y. omega arith) (λ y. by-either (λ v. omega arith) (λ v. omega arith) y) w)
+  of-abort (in-abort q w) i = q
+
+pub nothing-calm : (t : Id) → Calm t Note.nothing
+nothing-calm t = record { not-enlisted = λ n r k q. no₁ n r k q; not-prepared = λ r q. no₂ r (q .0) (q .1) }
+  where
+    no₁ : (m : ℕ) (r : Id) (k : ℕ) → Note.nothing ≡ Note.enlisted t m r k → ⊥
+    no₁ m r k q = let z : _≡_ {A = ℕ} 0 1 = cc in omega arith
+
+    no₂ : (r : Id) (m : ℕ) → Note.nothing ≡ Note.voted t m r kind.durable vote.Prepared → ⊥
+    no₂ r m q = let z : _≡_ {A = ℕ} 0 1 = cc in omega arith
+
+-- ── the table as it was given ───────────────────────────────────────────────────────────────────────────────────
+
+module _ (tb : Table) (s : Sound tb) (t : Id) (p : ℕ) (at : Stands t p tb) where
+  pub live : (transactionAt p tb .state ≡ 0 → ⊥)
+  live = eqb-false (stateAt p tb) 0 (not-true (eqb (stateAt p tb) 0) (named-is t (transactionAt p tb) (at .here) .0))
+
+  held-live : {x : Enlistment} → x ∈ held p tb → x .holder ≡ 0 → ⊥
+  held-live m z = not-zero (named-place t p tb (at .here)) (sym (of-held p tb m .1) ∙ z)
+
+  pub held-sized : {x : Enlistment} → x ∈ held p tb → (length (x .rm .0) ≡ identifierSize) × (x .number ≤ largestNumber)
+  held-sized {x} m = (s .manager-identifiers x (of-held p tb m .0) (held-live m) .0, s .numbers x (of-held p tb m .0) (held-live m) .1)
+
+  pub own-id-size : length t ≡ identifierSize
+  own-id-size = ap length (sym (named-is t (transactionAt p tb) (at .here) .1)) ∙ id-size tb s p (named-is t (transactionAt p tb) (at .here) .0)
+
+  pub untouched : Touched t p tb tb
+  untouched = record {
+    used = refl;
+    capacity = refl;
+    stands = at;
+    other-view = λ u d. refl;
+    sized = λ x m. held-sized m;
+    few = s .few p live;
+    owned = λ x m. inr (owner-held tb s t p at m .1);
+  }
+
+  pub low : tb .used ≤ tb .capacity
+  low = omega (arith, s .room)
+
+  -- where it is open, there is room for its forget record
+  pub room-open : (log : List ℕ) → length log ≡ tb .capacity → stateAt p tb ≡ transaction.committing → Some Durable (held p tb) → tb .used + forgetSize ≤ length log
+  unfolding openPlaces
+  room-open log full st d = rw full (omega (arith, s .room, positive (openPlaces tb) (in-places (λ q x. isOpen (x .state) (held q tb)) noTransaction (tb .transactions) (named-place t p tb (at .here)) is-open)))
+    where
+      positive : (l : List ℕ) → p ∈ l → 1 ≤ length l
+      positive [] m = absurd (List·Memᴰ·not-nil m)
+      positive (y ∷ l) m = omega arith
+
+      is-open : isOpen (stateAt p tb) (held p tb) ≡ true
+      is-open = rw (st, some-any isDurable (held p tb) (record { it = d .it; there = d .there; holds = eq-eqb (d .it .kind) kind.durable (d .holds) })) refl
+
+-- ── one enlistment of the transaction changes ───────────────────────────────────────────────────────────────────
+
+-- a change keeps what an enlistment is, or empties the place
+abbrev Mild : (Enlistment → Enlistment) → Type 0
+Mild f = (x : Enlistment) → ((f x .holder ≡ x .holder) × (f x .rm ≡ x .rm) × (f x .number ≡ x .number)) ⊎ (f x .holder ≡ 0)
+
+state-mild : (k : ℕ) → Mild (inState k)
+state-mild k x = inl (refl, refl, refl)
+
+freed-mild : Mild freed
+freed-mild x = inr refl
+
+module _ (tb : Table) (log : List ℕ) (n : ℕ) (s : Sound tb) (full : length log ≡ tb .capacity) (nm : Named tb n) (x : TxId) (y : RmId) where
+  abbrev pub t : Id
+  t = ownerOf n tb
+
+  abbrev pub p : ℕ
+  p = numbered n tb .holder
+
+  abbrev pub me : Enlistment
+  me = numbered n tb
+
+  abbrev hs : List Enlistment
+  hs = held p tb
+
+  abbrev pub event : Act → Event
+  event a = record { tx = x; rm = y; act = a }
+
+  abbrev changed : (Enlistment → Enlistment) → Table
+  changed f = changeNumber p n f tb
+
+  mild-on : (f : Enlistment → Enlistment) → Mild f → Mild (onNumber n f)
+  mild-on f mild e = by-cases (λ (w : Enlistment). ((w .holder ≡ e .holder) × (w .rm ≡ e .rm) × (w .number ≡ e .number)) ⊎ (w .holder ≡ 0)) (isNumbered n e) (f e) e (λ _. mild e) (λ _. inl (refl, refl, refl))
+
+  -- what is held came from what was held, with its own number
+  was : (f : Enlistment → Enlistment) → Mild f → {w : Enlistment} → w ∈ held p (changed f) → Some (λ e. (w .rm ≡ e .rm) × (w .number ≡ e .number)) hs
+  was f mild {w} m = by-either
+      (λ q. record { it = c .it; there = c .there; holds = (ap (λ (e : Enlistment). e .rm) (c .holds) ∙ q .1, ap (λ (e : Enlistment). e .number) (c .holds) ∙ q .2) })
+      (λ q. absurd (not-zero (named-place t p tb (nm .stands .here)) (sym (of-held p (changed f) m .1) ∙ ap (λ (e : Enlistment). e .holder) (c .holds) ∙ q)))
+      (mild-on f mild (c .it))
+    where
+      c : Some (λ e. w ≡ onNumber n f e) hs
+      c = held-came p (onNumber n f) tb m
+
+  touched : (f : Enlistment → Enlistment) → Mild f → Touched t p tb (changed f)
+  unfolding changeHeld
+  touched f mild = record {
+    used = refl;
+    capacity = refl;
+    stands = stands-held t p p (onNumber n f) tb (nm .stands);
+    other-view = λ u d. view-held-other u p (onNumber n f) tb (λ e. by-either (λ q. inl (q .0)) inr (mild-on f mild e)) (named-other t u (transactionAt p tb) (nm .stands .here) d);
+    sized = λ w m. sized w (was f mild m);
+    few = omega (arith, held-shorter p (onNumber n f) tb, s .few p (live tb s t p (nm .stands)));
+    owned = λ w m. owned w (was f mild m);
+  }
+    where
+      sized : (w : Enlistment) → Some (λ e. (w .rm ≡ e .rm) × (w .number ≡ e .number)) hs → (length (w .rm .0) ≡ identifierSize) × (w .number ≤ largestNumber)
+      sized w q = (ap (λ (r : RmId). length (r .0)) (q .holds .0) ∙ held-sized tb s t p (nm .stands) (q .there) .0, rw (q .holds .1) (held-sized tb s t p (nm .stands) (q .there) .1))
+
+      owned : (w : Enlistment) → Some (λ e. (w .rm ≡ e .rm) × (w .number ≡ e .number)) hs → Owned tb t (w .number)
+      owned w q = inr (rw (q .holds .1) (owner-held tb s t p (nm .stands) (q .there) .1))
+
+  -- another number is left alone
+  left-alone : (f : Enlistment → Enlistment) (e : Enlistment) → (e .number ≡ n → ⊥) → onNumber n f e ≡ e
+  left-alone f e d = rw (ne-eqb (e .number) n d) refl
+
+  is-changed : (f : Enlistment → Enlistment) (e : Enlistment) → e .number ≡ n → onNumber n f e ≡ f e
+  is-changed f e d = rw (eq-eqb (e .number) n d) refl
+
+  -- what had P keeps it, unless it is the event's own enlistment
+  keep-others : (P : Enlistment → Type 0) (f : Enlistment → Enlistment) → (P me → ⊥) → Some P hs → Some P (held p (changed f))
+  keep-others P f nope h = held-own P P p (onNumber n f) tb (λ e m q. rw (left-alone f e (λ d. nope (subst P (sym (nm .only m d)) q))) (q, refl)) h
+
+  -- the event's own enlistment afterwards
+  own-after : (P : Enlistment → Type 0) (f : Enlistment → Enlistment) → P (f me) → f me .holder ≡ p → Some P (held p (changed f))
+  own-after P f q h = held-own (λ e. me ≡ e) P p (onNumber n f) tb (λ e m d. rw (← d, is-changed f me (nm .number)) (q, h)) (record { it = me; there = nm .mine; holds = refl })
+
+  -- the view before and after, by the state of the transaction
+  view-before : (k : ℕ) → stateAt p tb ≡ k → viewOf t tb ≡ look k hs
+  view-before k q = view-stands t p tb (nm .stands) ∙ ap (λ k. look k hs) q
+
+  view-after : (f : Enlistment → Enlistment) (k : ℕ) → stateAt p tb ≡ k → viewOf t (changed f) ≡ look k (held p (changed f))
+  view-after f k q = view-changes t p tb (nm .stands) (onNumber n f) ∙ ap (λ k. look k (held p (changed f))) q
+
+  state-after : (f : Enlistment → Enlistment) (k : ℕ) → stateAt p tb ≡ k → stateAt p (changed f) ≡ k
+  state-after f k q = state-held p p (onNumber n f) tb ∙ q
+
+  -- ── vote ──────────────────────────────────────────────────────────────────────────────────────────────────────
+
+  module _ (v : Vote) (st : In enlistment.preparing me) where
+    abbrev ev : Event
+    ev = event (act.Vote n v)
+
+    abbrev cast : Note
+    cast = Note.voted t n (me .rm .0) (me .kind) v
+
+    voting-state : stateAt p tb ≡ transaction.phaseOne
+    voting-state = of-voting (stateAt p tb) me (nm .line) (inl st)
+
+    vote-calm : NotEnlisted t cast
+    vote-calm m r k q = let z : _≡_ {A = ℕ} 0 1 = cc in omega arith
+
+    not-hoping : (r : Id) → Hopes r me → ⊥
+    not-hoping r h = by-either (λ q. omega arith) (λ q. omega arith) (h .2)
+
+    voted-preparing : (f : Enlistment → Enlistment) → Yes v → (m : ℕ) → Some (Preparing m) hs → VoteOf t m cast ⊎ Some (Preparing m) (held p (changed f))
+    voted-preparing f yes-vote m h = go (ℕ-discrete m n)
+      where
+        go : Dec (m ≡ n) → VoteOf t m cast ⊎ Some (Preparing m) (held p (changed f))
+        go (yes q) = inl (me .rm .0, me .kind, v, ap (λ k. Note.voted t k (me .rm .0) (me .kind) v) (sym q), yes-vote)
+        go (no q) = inr (keep-others (Preparing m) f (λ w. q (sym (w .0) ∙ nm .number)) h)
+
+    abbrev Has-voted : (f : Enlistment → Enlistment) → Mild f → Type 0
+    Has-voted f mild = Voted tb ev log t p (changed f) (touched f mild) refl hs (noteOf tb ev)
+
+    -- not the last vote
+    vote-more : (f : Enlistment → Enlistment) (mild : Mild f) → Has-voted f mild → Own tb ev log t (quietly (changed f) log)
+    vote-more f mild w = unlogged tb ev log t p (changed f) (touched f mild) refl (changed f) [] (addressed-nothing tb ev) refl (λ u d. refl)
+        (λ h made l a. rw (view-before transaction.phaseOne voting-state, view-after f transaction.phaseOne voting-state)
+        (vote-on refl (quiet t tb ev [] (only-nothing notCommitted) (only-nothing notAborted)) (w .calm) (w .preparing) (w .hopes) (w .prepares)))
+
+    vote-decides : (f : Enlistment → Enlistment) (mild : Mild f) → Has-voted f mild → Own tb ev log t (follow then.Decide p (changed f) log)
+    unfolding follow
+    vote-decides f mild w = by-cases (Own tb ev log t) (any (isIn enlistment.preparing) (held p (changed f))) _ _
+        (λ _. vote-more f mild w)
+        (λ q. own-decide tb ev log t p (changed f) (touched f mild) refl hs (view-before transaction.phaseOne voting-state) (own-id-size tb s t p (nm .stands)) w q
+        (full ∙ sym (touched f mild .capacity)) (rw (touched f mild .used, touched f mild .capacity) (low tb s t p (nm .stands)))
+        (λ c. omega (arith, c, state-after f transaction.phaseOne voting-state)))
+
+  own-vote : (v : Vote) → In enlistment.preparing me → Own tb (event (act.Vote n v)) log t (react (toVote v) p n tb log)
+  unfolding react follow told
+  own-vote vote.Prepared st = vote-decides vote.Prepared st (inState enlistment.prepared) (state-mild enlistment.prepared) (record {
+    calm = vote-calm vote.Prepared st;
+    preparing = voted-preparing vote.Prepared st (inState enlistment.prepared) (inl refl);
+    hopes = λ r h. keep-others (Hopes r) (inState enlistment.prepared) (not-hoping vote.Prepared st r) h;
+    prepares = λ r q. own-after (Hopes r) (inState enlistment.prepared) (kind-of r q, rm-of r q, inl refl) refl;
+  })
+    where
+      kind-of : (r : Id) → Prepares t r (Note.voted t n (me .rm .0) (me .kind) vote.Prepared) → me .kind ≡ kind.durable
+      kind-of r (m, q) = cc
+
+      rm-of : (r : Id) → Prepares t r (Note.voted t n (me .rm .0) (me .kind) vote.Prepared) → me .rm .0 ≡ r
+      rm-of r (m, q) = cc
+  own-vote vote.ReadOnly st = vote-decides vote.ReadOnly st freed freed-mild (record {
+    calm = vote-calm vote.ReadOnly st;
+    preparing = voted-preparing vote.ReadOnly st freed (inr refl);
+    hopes = λ r h. keep-others (Hopes r) freed (not-hoping vote.ReadOnly st r) h;
+    prepares = λ r q. absurd (other r q);
+  })
+    where
+      other : (r : Id) → Prepares t r (Note.voted t n (me .rm .0) (me .kind) vote.ReadOnly) → ⊥
+      other r (m, q) = let z : _≡_ {A = ℕ} 0 1 = cc in omega arith
+  own-vote vote.Aborted st = own-abort tb (event (act.Vote n vote.Aborted)) log t p (changed (inState enlistment.done)) (touched (inState enlistment.done) (state-mild enlistment.done)) refl (rw (view-before transaction.phaseOne (voting-state vote.Aborted st)) d-voting)
+
+  -- ── after the decision ────────────────────────────────────────────────────────────────────────────────────────
+
+  -- an enlistment in another state: kinds stay
+  durable-stays : (k : ℕ) → Some Durable hs → Some Durable (held p (changed (inState k)))
+  durable-stays k h = held-own Durable Durable p (onNumber n (inState k)) tb
+      (λ e m q. by-cases (λ (w : Enlistment). Durable w × (w .holder ≡ e .holder)) (isNumbered n e) (inState k e) e (λ _. (q, refl)) (λ _. (q, refl))) h
+
+  durable-came : (k : ℕ) {w : Enlistment} → w ∈ held p (changed (inState k)) → Durable w → Some Durable hs
+  durable-came k {w} m d = record { it = c .it; there = c .there; holds = sym (same (c .it)) ∙ sym (ap (λ (e : Enlistment). e .kind) (c .holds)) ∙ d }
+    where
+      c : Some (λ e. w ≡ onNumber n (inState k) e) hs
+      c = held-came p (onNumber n (inState k)) tb m
+
+      same : (e : Enlistment) → onNumber n (inState k) e .kind ≡ e .kind
+      same e = by-cases (λ (w : Enlistment). w .kind ≡ e .kind) (isNumbered n e) (inState k e) e (λ _. refl) (λ _. refl)
+
+  none-stays : (k : ℕ) → NoDurable hs → NoDurable (held p (changed (inState k)))
+  none-stays k nd w m d = let c : Some Durable hs = durable-came k m d in nd (c .it) (c .there) (c .holds)
+
+  -- who waits still waits, or it is the event's own enlistment
+  waits-stays : (k : ℕ) (r : Id) → Some (Waits r) hs → Some (Waits r) (held p (changed (inState k))) ⊎ ((me .rm .0 ≡ r) × Durable me)
+  waits-stays k r h = go (ℕ-discrete (h .it .number) n)
+    where
+      go : Dec (h .it .number ≡ n) → Some (Waits r) (held p (changed (inState k))) ⊎ ((me .rm .0 ≡ r) × Durable me)
+      go (yes q) = inr (rw (nm .only (h .there) q) (h .holds .1, h .holds .0))
+      go (no q) = inl (held-own (λ e. h .it ≡ e) (Waits r) p (onNumber n (inState k)) tb
+          (λ e m d. rw (← d, left-alone (inState k) (h .it) q) (h .holds, refl)) (record { it = h .it; there = h .there; holds = refl }))
+
+  -- its forget record fits, if it is open still
+  room-after : (k : ℕ) → stateAt p tb ≡ transaction.committing → any isDurable (held p (changed (inState k))) ≡ true → changed (inState k) .used + forgetSize ≤ length log
+  room-after k st d = rw (touched (inState k) (state-mild k) .used) (room-open tb s t p (nm .stands) log full st (durable-came k (c .there) (eqb-true (c .it .kind) kind.durable (c .holds))))
+    where
+      c : Some (λ e. isDurable e ≡ true) (held p (changed (inState k)))
+      c = any-some isDurable (held p (changed (inState k))) d
+
+  module _ (a : Act) (about : subjectOf tb (event a) ≡ t) (st : stateAt p tb ≡ transaction.committing) (calm : Calm t (noteOf tb (event a))) where
+    -- it is Done
+    done-committing : (Durable me → Closes t (me .rm .0) (noteOf tb (event a))) → Own tb (event a) log t (follow then.End p (changed (inState enlistment.done)) log)
+    unfolding follow
+    done-committing closes = own-end-committing tb (event a) log t p (changed (inState enlistment.done)) (touched (inState enlistment.done) (state-mild enlistment.done)) about hs
+        (view-before transaction.committing st) (state-after (inState enlistment.done) transaction.committing st)
+        (record {
+          calm = calm;
+          waits = λ r h. by-either inl (λ q. inr (rw (q .0) at (closes (q .1)))) (waits-stays enlistment.done r h);
+          durable = durable-stays enlistment.done;
+          no-durable = none-stays enlistment.done;
+        })
+        (own-id-size tb s t p (nm .stands)) (view-after (inState enlistment.done) transaction.committing st) (room-after enlistment.done st)
+
+  done-aborting : (a : Act) → subjectOf tb (event a) ≡ t → stateAt p tb ≡ transaction.aborting → Own tb (event a) log t (follow then.End p (changed (inState enlistment.done)) log)
+  unfolding follow
+  done-aborting a about st = own-end-aborting tb (event a) log t p (changed (inState enlistment.done)) (touched (inState enlistment.done) (state-mild enlistment.done)) about
+      (view-before transaction.aborting st) (state-after (inState enlistment.done) transaction.aborting st) (view-after (inState enlistment.done) transaction.aborting st)
+
+  ack-calm : Calm t (Note.acked t n (me .rm .0))
+  ack-calm = record { not-enlisted = λ m r k q. no₁ m r k q; not-prepared = λ r q. no₂ r (q .0) (q .1) }
+    where
+      no₁ : (m : ℕ) (r : Id) (k : ℕ) → Note.acked t n (me .rm .0) ≡ Note.enlisted t m r k → ⊥
+      no₁ m r k q = let z : _≡_ {A = ℕ} 0 1 = cc in omega arith
+
+      no₂ : (r : Id) (m : ℕ) → Note.acked t n (me .rm .0) ≡ Note.voted t m r kind.durable vote.Prepared → ⊥
+      no₂ r m q = let z : _≡_ {A = ℕ} 0 1 = cc in omega arith
+
+  own-ack : In enlistment.toldCommit me ⊎ In enlistment.toldAbort me → Own tb (event (act.Ack n)) log t (react (reaction.Becomes enlistment.done then.End) p n tb log)
+  unfolding react told
+  own-ack (inl st) = done-committing (act.Ack n) refl (of-commit (stateAt p tb) me (nm .line) (inl st)) ack-calm (λ _. inl (n, refl))
+  own-ack (inr st) = done-aborting (act.Ack n) refl (of-abort (stateAt p tb) me (nm .line) st)
+
+  -- ── the end of single phase ───────────────────────────────────────────────────────────────────────────────────
+
+  abbrev single-over : Name → Outcome
+  single-over a = saying (toApp a) (quietly (emptied p (changed freed)) log)
+
+  end-is : (a : Name) → stateAt p tb ≡ transaction.singlePhase → follow (then.EndWith a) p (changed freed) log ≡ single-over a
+  unfolding follow
+  end-is a st = ap (saying (toApp a)) (unlogged-end p (changed freed) log (λ q. omega (arith, q, state-after freed transaction.singlePhase st)))
+
+  -- what the application is told is no abort after a committed reply, and no commit after any other
+  reply-ends : (r : Reply) (a : Name) → (h : stateAt p tb ≡ transaction.singlePhase)
+      → ((h : List Note) (l : Story) → Agrees (viewOf t tb) l → Move t h (noteOf tb (event (act.Reply n r))) (map (messageOf tb (event (act.Reply n r))) (toApp a)) l l (alone.single hs) alone.out)
+      → Own tb (event (act.Reply n r)) log t (follow (then.EndWith a) p (changed freed) log)
+  reply-ends r a st mv = rw (end-is a st) (unlogged tb (event (act.Reply n r)) log t p (changed freed) (touched freed freed-mild) refl (emptied p (changed freed)) (toApp a) (addressed-one tb (event (act.Reply n r)) a 0 (inl refl)) (used-emptied p (changed freed)) (ends-for t p (changed freed) (touched freed freed-mild .stands))
+      (λ h made l g. rw (view-before transaction.singlePhase st, view-ends t p (changed freed) (touched freed freed-mild .stands)) (mv h l g)))
+
+  own-reply : (r : Reply) → In enlistment.onePhase me → Own tb (event (act.Reply n r)) log t (react (reaction.Freed (then.EndWith (toReply r))) p n tb log)
+  unfolding react told
+  own-reply reply.Committed st = reply-ends reply.Committed name.AppCommitted (of-single (stateAt p tb) me (nm .line) st)
+      (λ h l g. replied refl refl (record { it = me; there = nm .mine; holds = nm .number }) (none-aborted t tb (event (act.Reply n reply.Committed)) (toApp name.AppCommitted) (only-one notAborted name.AppCommitted 0 refl)))
+  own-reply reply.Aborted st = reply-ends reply.Aborted name.AppAborted (of-single (stateAt p tb) me (nm .line) st)
+      (λ h l g. abort refl d-single g-out (none-committed t tb (event (act.Reply n reply.Aborted)) (toApp name.AppAborted) (only-one notCommitted name.AppAborted 0 refl)))
+  own-reply reply.InDoubt st = reply-ends reply.InDoubt name.AppInDoubt (of-single (stateAt p tb) me (nm .line) st)
+      (λ h l g. abort refl d-single g-out (none-committed t tb (event (act.Reply n reply.InDoubt)) (toApp name.AppInDoubt) (only-one notCommitted name.AppInDoubt 0 refl)))
+
+  -- ── zero done ─────────────────────────────────────────────────────────────────────────────────────────────────
+
+  own-zero-done : In enlistment.zero me → Own tb (event (act.ZeroDone n)) log t (react (reaction.Freed then.StartPhaseOne) p n tb log)
+  unfolding react follow told
+  own-zero-done st = by-cases (Own tb ev log t) (any isPhaseZero (held p (changed freed))) _ _
+      (λ _. unlogged tb ev log t p (changed freed) (touched freed freed-mild) refl (changed freed) [] (addressed-nothing tb ev) refl (λ u d. refl)
+      (λ h made l g. rw (view-before transaction.phaseZero (two .0), view-after freed transaction.phaseZero (two .0))
+      (gather refl (nothing-calm t .not-prepared) (quiet t tb ev [] (only-nothing notCommitted) (only-nothing notAborted)) unasked (λ m r k q w. absurd (nothing-calm t .not-enlisted m r k q)))))
+      (λ _. own-start tb ev log t p (changed freed) (touched freed freed-mild) refl hs (view-before transaction.phaseZero (two .0)) (nothing-calm t) unasked (λ c. omega (arith, c, state-after freed transaction.phaseZero (two .0))))
+    where
+      ev : Event
+      ev = event (act.ZeroDone n)
+
+      two : (stateAt p tb ≡ transaction.phaseZero) × PhaseZero me
+      two = of-zero (stateAt p tb) me (nm .line) st
+
+      no-vote : Votes (me .kind) → ⊥
+      no-vote m = by-either (λ q. omega (arith, q, two .1)) (λ q. omega (arith, q, two .1)) m
+
+      unasked : (m : ℕ) → Some (Unasked m) hs → Some (Unasked m) (held p (changed freed))
+      unasked m h = keep-others (Unasked m) freed (λ q. no-vote (q .1)) h
+
+  -- ── lost ──────────────────────────────────────────────────────────────────────────────────────────────────────
+
+  abbrev lost : Event
+  lost = event (act.Lost n)
+
+  lost-abort : Doomed t (viewOf t tb) → Own tb lost log t (react (reaction.Becomes enlistment.done then.Abort) p n tb log)
+  unfolding react follow
+  lost-abort d = own-abort tb lost log t p (changed (inState enlistment.done)) (touched (inState enlistment.done) (state-mild enlistment.done)) refl d
+
+  lost-prepared : In enlistment.prepared me → Own tb lost log t (react (reaction.Becomes enlistment.preparedLost then.Nothing) p n tb log)
+  unfolding react follow told
+  lost-prepared st = unlogged tb lost log t p (changed (inState enlistment.preparedLost)) (touched (inState enlistment.preparedLost) (state-mild enlistment.preparedLost)) refl (changed (inState enlistment.preparedLost)) [] (addressed-nothing tb lost) refl (λ u d. refl)
+      (λ h made l g. rw (view-before transaction.phaseOne three, view-after (inState enlistment.preparedLost) transaction.phaseOne three)
+      (vote-on refl (quiet t tb lost [] (only-nothing notCommitted) (only-nothing notAborted)) (nothing-calm t .not-enlisted)
+      (λ m w. inr (keep-others (Preparing m) (inState enlistment.preparedLost) (λ q. omega (arith, st, q .1)) w))
+      (λ r w. held-own (Hopes r) (Hopes r) p (onNumber n (inState enlistment.preparedLost)) tb (λ e m q. by-cases (λ (v : Enlistment). Hopes r v × (v .holder ≡ e .holder)) (isNumbered n e) (inState enlistment.preparedLost e) e (λ _. ((q .0, q .1, inr refl), refl)) (λ _. (q, refl))) w)
+      (λ r q. absurd (nothing-calm t .not-prepared r q))))
+    where
+      three : stateAt p tb ≡ transaction.phaseOne
+      three = of-voting (stateAt p tb) me (nm .line) (inr st)
+
+  lost-single : In enlistment.onePhase me → Own tb lost log t (react (reaction.Freed (then.EndWith name.AppInDoubt)) p n tb log)
+  unfolding react
+  lost-single st = rw (end-is name.AppInDoubt four) (unlogged tb lost log t p (changed freed) (touched freed freed-mild) refl (emptied p (changed freed)) (toApp name.AppInDoubt) (addressed-one tb lost name.AppInDoubt 0 (inl refl)) (used-emptied p (changed freed)) (ends-for t p (changed freed) (touched freed freed-mild .stands))
+      (λ h made l g. rw (view-before transaction.singlePhase four, view-ends t p (changed freed) (touched freed freed-mild .stands)) (abort refl d-single g-out (none-committed t tb lost (toApp name.AppInDoubt) (only-one notCommitted name.AppInDoubt 0 refl)))))
+    where
+      four : stateAt p tb ≡ transaction.singlePhase
+      four = of-single (stateAt p tb) me (nm .line) st
+
+  lost-told : In enlistment.toldCommit me → Own tb lost log t (react (reaction.Becomes enlistment.failedToNotify then.Nothing) p n tb log)
+  unfolding react follow told
+  lost-told st = unlogged tb lost log t p (changed (inState enlistment.failedToNotify)) (touched (inState enlistment.failedToNotify) (state-mild enlistment.failedToNotify)) refl (changed (inState enlistment.failedToNotify)) [] (addressed-nothing tb lost) refl (λ u d. refl)
+      (λ h made l g. rw (view-before transaction.committing five, view-after (inState enlistment.failedToNotify) transaction.committing five)
+      (told-on refl (nothing-calm t) (none-aborted t tb lost [] (only-nothing notAborted))
+      (λ r w. inl (held-own (Waits r) (Waits r) p (onNumber n (inState enlistment.failedToNotify)) tb (λ e m q. by-cases (λ (v : Enlistment). Waits r v × (v .holder ≡ e .holder)) (isNumbered n e) (inState enlistment.failedToNotify e) e (λ _. ((q .0, q .1, inr refl), refl)) (λ _. (q, refl))) w))
+      (durable-stays enlistment.failedToNotify) (none-stays enlistment.failedToNotify)))
+    where
+      five : stateAt p tb ≡ transaction.committing
+      five = of-commit (stateAt p tb) me (nm .line) (inl st)
+
+  lost-committing : In enlistment.toldCommit me → durableKind (me .kind) ≡ false → Own tb lost log t (react (reaction.Becomes enlistment.done then.End) p n tb log)
+  unfolding react told
+  lost-committing st nd = done-committing (act.Lost n) refl (of-commit (stateAt p tb) me (nm .line) (inl st)) (nothing-calm t) (λ d. absurd (eqb-false (me .kind) kind.durable nd d))
+
+  lost-aborting : In enlistment.toldAbort me → Own tb lost log t (react (reaction.Becomes enlistment.done then.End) p n tb log)
+  unfolding react
+  lost-aborting st = done-aborting (act.Lost n) refl (of-abort (stateAt p tb) me (nm .line) st)
+
+  -- before the decision
+  early-doomed : In enlistment.active me ⊎ In enlistment.zero me → Doomed t (viewOf t tb)
+  early-doomed (inl q) = by-either (λ w. rw (view-before transaction.active w) d-early) (λ w. rw (view-before transaction.phaseZero w) d-early) (of-active (stateAt p tb) me (nm .line) q)
+  early-doomed (inr q) = rw (view-before transaction.phaseZero (of-zero (stateAt p tb) me (nm .line) q .0)) d-early
+
+  voting-doomed : In enlistment.preparing me ⊎ In enlistment.prepared me → Doomed t (viewOf t tb)
+  voting-doomed q = rw (view-before transaction.phaseOne (of-voting (stateAt p tb) me (nm .line) q)) d-voting
+
+  -- ── every reaction ────────────────────────────────────────────────────────────────────────────────────────────
+
+  pub record Reacts (a : Act) (r : Reaction) : Type 0 where
+    pub gives : isRefused r ≡ false → Own tb (event a) log t (react r p n tb log)
+
+  refuses : (a : Act) → Reacts a reaction.Refused
+  refuses a = record { gives = λ q. absurd (true≢false q) }
+
+  reacts-lost : Reacts (act.Lost n) (toLost (me .kind) (me .state))
+  unfolding toLost
+  reacts-lost = by-cases R (eqb k enlistment.active || eqb k enlistment.zero || eqb k enlistment.preparing) _ _
+      (λ q. record { gives = λ _. lost-abort (soon q) })
+      (λ _. by-cases R (eqb k enlistment.prepared) _ _
+      (λ q. by-cases R (durableKind (me .kind)) _ _ (λ _. record { gives = λ _. lost-prepared (eqb-true k enlistment.prepared q) }) (λ _. record { gives = λ _. lost-abort (voting-doomed (inr (eqb-true k enlistment.prepared q))) }))
+      (λ _. by-cases R (eqb k enlistment.onePhase) _ _
+      (λ q. record { gives = λ _. lost-single (eqb-true k enlistment.onePhase q) })
+      (λ _. by-cases R (eqb k enlistment.toldCommit) _ _
+      (λ q. by-cases R (durableKind (me .kind)) _ _ (λ _. record { gives = λ _. lost-told (eqb-true k enlistment.toldCommit q) }) (λ d. record { gives = λ _. lost-committing (eqb-true k enlistment.toldCommit q) d }))
+      (λ _. by-cases R (eqb k enlistment.toldAbort) _ _ (λ q. record { gives = λ _. lost-aborting (eqb-true k enlistment.toldAbort q) }) (λ _. refuses (act.Lost n))))))
+    where
+      k : ℕ
+      k = me .state
+
+      R : Reaction → Type 0
+      R = Reacts (act.Lost n)
+
+      soon : (eqb k enlistment.active || eqb k enlistment.zero || eqb k enlistment.preparing) ≡ true → Doomed t (viewOf t tb)
+      soon q = by-either (λ w. by-either (λ v. early-doomed (inl (eqb-true k enlistment.active v))) (λ v. early-doomed (inr (eqb-true k enlistment.zero v))) (true-or (eqb k enlistment.active) (eqb k enlistment.zero) w)) (λ w. voting-doomed (inl (eqb-true k enlistment.preparing w))) (true-or (eqb k enlistment.active || eqb k enlistment.zero) (eqb k enlistment.preparing) q)
+
+  abbrev pub Reacts-to : Act → Type 0
+  Reacts-to a = Reacts a (reactionOf (me .kind) (me .state) a)
+
+  pub reacts-zero-done : Reacts-to (act.ZeroDone n)
+  unfolding reactionOf
+  reacts-zero-done = by-cases (Reacts (act.ZeroDone n)) (eqb (me .state) enlistment.zero) _ _ (λ q. record { gives = λ _. own-zero-done (eqb-true (me .state) enlistment.zero q) }) (λ _. refuses (act.ZeroDone n))
+
+  pub reacts-vote : (v : Vote) → Reacts-to (act.Vote n v)
+  unfolding reactionOf
+  reacts-vote v = by-cases (Reacts (act.Vote n v)) (eqb (me .state) enlistment.preparing) _ _ (λ q. record { gives = λ _. own-vote v (eqb-true (me .state) enlistment.preparing q) }) (λ _. refuses (act.Vote n v))
+
+  pub reacts-reply : (r : Reply) → Reacts-to (act.Reply n r)
+  unfolding reactionOf
+  reacts-reply r = by-cases (Reacts (act.Reply n r)) (eqb (me .state) enlistment.onePhase) _ _ (λ q. record { gives = λ _. own-reply r (eqb-true (me .state) enlistment.onePhase q) }) (λ _. refuses (act.Reply n r))
+
+  pub reacts-ack : Reacts-to (act.Ack n)
+  unfolding reactionOf
+  reacts-ack = by-cases (Reacts (act.Ack n)) (eqb (me .state) enlistment.toldCommit || eqb (me .state) enlistment.toldAbort) _ _
+      (λ q. record { gives = λ _. own-ack (by-either (λ w. inl (eqb-true (me .state) enlistment.toldCommit w)) (λ w. inr (eqb-true (me .state) enlistment.toldAbort w)) (true-or (eqb (me .state) enlistment.toldCommit) (eqb (me .state) enlistment.toldAbort) q)) })
+      (λ _. refuses (act.Ack n))
+
+  pub reacts-to-lost : Reacts-to (act.Lost n)
+  unfolding reactionOf
+  reacts-to-lost = reacts-lost

@@ -1,0 +1,247 @@
+-- A finished re-enlistment, which may end several transactions: what it is to each of them.
+use Prim.Native.Nat.{ℕ, suc}
+use native.Mathlib.Omega.{arith}
+use mathlib.Core.Path.{_≡_, refl, sym, _∙_, ap}
+use mathlib.Core.Logic.{_⊎_, inl, inr}
+use mathlib.Core.Bool.{Bool, true, false, _&&_}
+use mathlib.Core.List.{List, [], _∷_, map, List·Memᴰ·not-nil}
+use lib.ListN.{length}
+use lib.Dec.{eqb}
+use borrow.Author.Tests.{eqb-true, eqb-false, eq-eqb}
+use Rattle.lists.specs.Members.{_∈_, Each, Some}
+use Rattle.lists.specs.Lists.{all, any, filter}
+use Rattle.lists.specs.Places.{placesFrom, placesWhere}
+use Rattle.lists.proofs.Tests.{by-test, by-either, no-clash, is-false, true-and, in-map, of-map, each-head, each-rest, all-each, some-any}
+use Rattle.lists.proofs.Places.{in-places, of-places}
+use Rattle.lists.proofs.Sorting.{in-sort, of-sort}
+use Rattle.rules.specs.declared.Transaction.{Transaction}
+use Rattle.rules.specs.declared.Enlistment.{Enlistment}
+use Rattle.rules.specs.declared.Table.{Table}
+use Rattle.rules.specs.declared.Vote.the-variants as vote
+use Rattle.rules.specs.Kinds as kind
+use Rattle.rules.specs.TransactionState as transaction
+use Rattle.rules.specs.EnlistmentState as enlistment
+use Rattle.rules.specs.Identifiers.{Id, sameBytes}
+use Rattle.rules.specs.Table.{noTransaction, isNamed, placeNamed, transactionAt, stateAt, heldBy, held, isDurable, isDurableOf, isIn, isDone, inState, withEnlistments}
+use Rattle.rules.specs.Sound.{Sound, HoldsWell, In, Durable, isOpen, openPlaces, openCount, active, phase-zero, phase-one, single-phase, committing, aborting}
+use Rattle.rules.specs.Events.{doneFor, byIdentifier, finished, endEach, reenlistedOf}
+use Rattle.rules.proofs.Identifiers.{same-equal}
+use Rattle.rules.proofs.Frames.{named-found, none-absent, named-place, Stands, Absent}
+use Rattle.safety.specs.World.{Note}
+use Rattle.safety.specs.Host.{Closes}
+use Rattle.safety.proofs.Alone as alone
+use Rattle.safety.proofs.Alone.{Story, closed, View, out, Waits}
+use Rattle.safety.proofs.Move.{Quiet, Calm, Move, stay, told-on, end-logged}
+use Rattle.safety.proofs.Top.{Agrees}
+use Rattle.safety.proofs.Story.{story, onForget}
+use Rattle.safety.proofs.View.{viewOf, look, view-stands, view-absent}
+use Rattle.safety.proofs.Given.{stands-sound, id-size, row}
+use Rattle.safety.proofs.Own.{by-cases}
+use Rattle.safety.proofs.Reactions.{live, of-commit}
+use Rattle.safety.proofs.Ends.{Roomy, Seen, forgets, each-other, each-own}
+
+-- ── the enlistments ─────────────────────────────────────────────────────────────────────────────────────────────
+
+module _ (r : Id) where
+  done-kept : (e : Enlistment) → (doneFor r e .holder ≡ e .holder) × (doneFor r e .kind ≡ e .kind)
+  done-kept e = by-cases (λ (w : Enlistment). (w .holder ≡ e .holder) × (w .kind ≡ e .kind)) (isDurableOf r e && isIn enlistment.failedToNotify e) (inState enlistment.done e) e (λ _. (refl, refl)) (λ _. (refl, refl))
+
+  -- what was not Done and is, was r's, durable, and in Failed-to-notify
+  done-now : (e : Enlistment) → isDone (doneFor r e) ≡ true → (isDone e ≡ true) ⊎ ((isDurableOf r e && isIn enlistment.failedToNotify e) ≡ true)
+  done-now e d = by-test (isDurableOf r e && isIn enlistment.failedToNotify e) (λ b. inr b) (λ b. inl (rw b at d))
+
+  -- who waits still waits, or it is r's own
+  done-waits : (q : Id) (e : Enlistment) → Waits q e → Waits q (doneFor r e) ⊎ (q ≡ r)
+  done-waits q e w = by-test (isDurableOf r e && isIn enlistment.failedToNotify e)
+      (λ b. inr (sym (w .1) ∙ same-equal (e .rm .0) r (true-and (isDurable e) (sameBytes (e .rm .0) r) (true-and (isDurableOf r e) (isIn enlistment.failedToNotify e) b .0) .1)))
+      (λ b. inl (rw b w))
+
+  held-map : (q : ℕ) (es : List Enlistment) → filter (heldBy q) (map (doneFor r) es) ≡ map (doneFor r) (filter (heldBy q) es)
+  unfolding filter
+  held-map q [] = refl
+  held-map q (e ∷ es) = by-test (heldBy q e)
+      (λ b. rw (b, ap (λ n. eqb n q) (done-kept e .0) ∙ b) (ap (λ l. doneFor r e ∷ l) (held-map q es)))
+      (λ b. rw (b, ap (λ n. eqb n q) (done-kept e .0) ∙ b) (held-map q es))
+
+  durable-map : (es : List Enlistment) → any isDurable (map (doneFor r) es) ≡ any isDurable es
+  unfolding any
+  durable-map [] = refl
+  durable-map (e ∷ es) = rw (ap (λ n. eqb n kind.durable) (done-kept e .1), durable-map es) refl
+
+same-map : (f : Enlistment → Enlistment) (es : List Enlistment) → Each (λ e. f e ≡ e) es → map f es ≡ es
+same-map f [] h = refl
+same-map f (e ∷ es) h = rw (each-head h, same-map f es (each-rest h)) refl
+
+same-places : {A : Type 0} (f g : ℕ → A → Bool) → ((q : ℕ) (x : A) → g q x ≡ f q x) → (k : ℕ) (xs : List A) → placesFrom g k xs ≡ placesFrom f k xs
+unfolding placesFrom
+same-places f g h k [] = refl
+same-places f g h k (x ∷ xs) = rw (h k x, same-places f g h (suc k) xs) refl
+
+reenlisted-calm : (t r : Id) → Calm t (Note.reenlisted r)
+reenlisted-calm t r = record { not-enlisted = λ n q k w. no₁ n q k w; not-prepared = λ q w. no₂ q (w .0) (w .1) }
+  where
+    no₁ : (m : ℕ) (q : Id) (k : ℕ) → Note.reenlisted r ≡ Note.enlisted t m q k → ⊥
+    no₁ m q k w = let z : _≡_ {A = ℕ} 0 1 = cc in omega arith
+
+    no₂ : (q : Id) (m : ℕ) → Note.reenlisted r ≡ Note.voted t m q kind.durable vote.Prepared → ⊥
+    no₂ q m w = let z : _≡_ {A = ℕ} 0 1 = cc in omega arith
+
+-- in Committing, at least one is not Done
+some-undone : {s : ℕ} {hs : List Enlistment} → HoldsWell s hs → s ≡ transaction.committing → Some (λ e. In enlistment.done e → ⊥) hs
+some-undone (active q a) c = absurd (omega arith)
+some-undone (phase-zero q a i) c = absurd (omega arith)
+some-undone (phase-one q p a i) c = absurd (omega arith)
+some-undone (single-phase q l a) c = absurd (omega arith)
+some-undone (committing q p a i) c = i
+some-undone (aborting q a i) c = absurd (omega arith)
+
+-- ── the table after it ──────────────────────────────────────────────────────────────────────────────────────────
+
+module _ (r : Id) (tb : Table) (log : List ℕ) (s : Sound tb) (full : length log ≡ tb .capacity) where
+  unfoldable pub after : Table
+  after = withEnlistments (map (doneFor r) (tb .enlistments)) tb
+
+  abbrev pub ps : List ℕ
+  ps = finished after
+
+  pub reenlisted-is : reenlistedOf r tb log ≡ endEach ps after log
+  unfolding reenlistedOf after
+  reenlisted-is = refl
+
+  held-after : (q : ℕ) → held q after ≡ map (doneFor r) (held q tb)
+  unfolding held after
+  held-after q = held-map r q (tb .enlistments)
+
+  open-after : (q : ℕ) (n : ℕ) → isOpen n (held q after) ≡ isOpen n (held q tb)
+  open-after q n = rw (held-after q, durable-map r (held q tb)) refl
+
+  as-many : openCount after ≡ openCount tb
+  unfolding openPlaces after
+  as-many = ap length (same-places (λ q (x : Transaction). isOpen (x .state) (held q tb)) (λ q (x : Transaction). isOpen (x .state) (held q after)) (λ q x. open-after q (x .state)) 1 (tb .transactions))
+
+  pub roomy-after : Roomy after log
+  unfolding after
+  roomy-after = record { sized = λ q l. id-size tb s q l; room = rw (as-many, full) (s .room) }
+
+  -- ── to one transaction ────────────────────────────────────────────────────────────────────────────────────────
+
+  module _ (t : Id) (h : List Note) (l : Story) where
+    abbrev pub M : View → View → Type 0
+    M v w = Move t h (Note.reenlisted r) [] l (story t l (forgets ps after log)) v w
+
+    silent : Quiet t []
+    silent = record { no-committed = λ m. List·Memᴰ·not-nil (m .there); no-aborted = λ m. List·Memᴰ·not-nil (m .there) }
+
+    calm : Calm t (Note.reenlisted r)
+    calm = reenlisted-calm t r
+
+    abbrev pub Result : View
+    Result = viewOf t (endEach ps after log .table)
+
+    stays : (v : View) → viewOf t tb ≡ v → Seen t ps after log v (λ k. k) → M (viewOf t tb) Result
+    stays v e w = rw (e, w .view) (stay (w .tale l) calm silent)
+
+    -- it is not live
+    dead : Absent t tb → M (viewOf t tb) Result
+    unfolding after
+    dead a = stays out (view-absent t tb a) (each-other t ps after log out (view-absent t after (record { nowhere = a .nowhere })) (λ q m. a .nowhere q))
+
+    module _ (p : ℕ) (at : Stands t p tb) (agrees : Agrees (viewOf t tb) l) where
+      at-after : Stands t p after
+      unfolding after
+      at-after = record { here = at .here; alone = at .alone }
+
+      abbrev hs : List Enlistment
+      hs = held p tb
+
+      abbrev over : Bool
+      over = eqb (stateAt p tb) transaction.committing && all isDone (held p after)
+
+      view-now : viewOf t tb ≡ look (stateAt p tb) hs
+      view-now = view-stands t p tb at
+
+      view-then : viewOf t after ≡ look (stateAt p tb) (map (doneFor r) hs)
+      unfolding after
+      view-then = view-stands t p after at-after ∙ ap (look (stateAt p tb)) (held-after p)
+
+      is-finished : over ≡ true → p ∈ ps
+      unfolding finished after
+      is-finished b = in-sort (byIdentifier after) (placesWhere (λ q (x : Transaction). eqb (x .state) transaction.committing && all isDone (held q after)) (tb .transactions))
+          (in-places (λ q (x : Transaction). eqb (x .state) transaction.committing && all isDone (held q after)) noTransaction (tb .transactions) (named-place t p tb (at .here)) b)
+
+      not-finished : over ≡ false → (q : ℕ) → q ∈ ps → isNamed t (transactionAt q after) ≡ false
+      unfolding finished after
+      not-finished b q m = is-false (isNamed t (transactionAt q tb)) (λ n. no-clash over (ap (λ w. eqb (stateAt w tb) transaction.committing && all isDone (held w after)) (sym (at .alone q n)) ∙
+          of-places (λ q (x : Transaction). eqb (x .state) transaction.committing && all isDone (held q after)) noTransaction (tb .transactions) (of-sort (byIdentifier after) (placesWhere (λ q (x : Transaction). eqb (x .state) transaction.committing && all isDone (held q after)) (tb .transactions)) m) .1) b)
+
+      -- ── it ends ───────────────────────────────────────────────────────────────────────────────────────────────
+
+      module _ (b : over ≡ true) where
+        five : stateAt p tb ≡ transaction.committing
+        five = eqb-true (stateAt p tb) transaction.committing (true-and (eqb (stateAt p tb) transaction.committing) (all isDone (held p after)) b .0)
+
+        all-done : (e : Enlistment) → e ∈ hs → isDone (doneFor r e) ≡ true
+        all-done e m = all-each isDone (held p after) (true-and (eqb (stateAt p tb) transaction.committing) (all isDone (held p after)) b .1) (doneFor r e) (rw (held-after p) (in-map (doneFor r) m))
+
+        -- one was not Done before, so that it was r's and durable
+        has-durable : Some Durable hs
+        has-durable = go (some-undone (s .states p (live tb s t p at)) five)
+          where
+            go : Some (λ e. In enlistment.done e → ⊥) hs → Some Durable hs
+            go w = by-either
+                (λ d. absurd (w .holds (eqb-true (w .it .state) enlistment.done d)))
+                (λ d. record { it = w .it; there = w .there; holds = eqb-true (w .it .kind) kind.durable (true-and (isDurable (w .it)) (sameBytes (w .it .rm .0) r) (true-and (isDurableOf r (w .it)) (isIn enlistment.failedToNotify (w .it)) d .0) .0) })
+                (done-now r (w .it) (all-done (w .it) (w .there)))
+
+        is-open : isOpen (stateAt p after) (held p after) ≡ true
+        unfolding after
+        is-open = open-after p (stateAt p tb) ∙ rw (five, some-any isDurable hs (record { it = has-durable .it; there = has-durable .there; holds = eq-eqb (has-durable .it .kind) kind.durable (has-durable .holds) })) refl
+
+        all-close : (q : Id) → Some (Waits q) hs → Closes t q (Note.reenlisted r)
+        all-close q w = by-either (λ v. absurd (still v (eqb-true (doneFor r (w .it) .state) enlistment.done (all-done (w .it) (w .there))))) (λ e. inr (ap Note.reenlisted (sym e))) (done-waits r q (w .it) (w .holds))
+          where
+            still : Waits q (doneFor r (w .it)) → doneFor r (w .it) .state ≡ enlistment.done → ⊥
+            still v d = by-either (λ y. omega (arith, y, d)) (λ y. omega (arith, y, d)) (v .2)
+
+        is-closed : Agrees (alone.committing hs) l → onForget l ≡ closed
+        is-closed (inl (rs, q, y)) = rw q refl
+        is-closed (inr (q, y)) = absurd (y (has-durable .it) (has-durable .there) (has-durable .holds))
+
+        ends : M (viewOf t tb) Result
+        ends = rw (now, w .view) (end-logged (w .tale l ∙ is-closed (rw now at agrees)) calm silent all-close)
+          where
+            now : viewOf t tb ≡ alone.committing hs
+            now = view-now ∙ ap (λ n. look n hs) five
+
+            w : Seen t ps after log out onForget
+            w = each-own t p ps after log at-after (is-finished b) is-open
+
+      -- ── it goes on ────────────────────────────────────────────────────────────────────────────────────────────
+
+      module _ (b : over ≡ false) where
+        seen : Seen t ps after log (look (stateAt p tb) (map (doneFor r) hs)) (λ k. k)
+        seen = each-other t ps after log (look (stateAt p tb) (map (doneFor r) hs)) view-then (not-finished b)
+
+        goes-on : stateAt p tb ≡ transaction.committing → M (viewOf t tb) Result
+        goes-on five = rw (view-now ∙ ap (λ n. look n hs) five, seen .view ∙ ap (λ n. look n (map (doneFor r) hs)) five)
+            (told-on (seen .tale l) calm (silent .no-aborted)
+            (λ q w. by-either (λ v. inl (record { it = doneFor r (w .it); there = in-map (doneFor r) (w .there); holds = v })) (λ e. inr (inr (ap Note.reenlisted (sym e)))) (done-waits r q (w .it) (w .holds)))
+            (λ w. record { it = doneFor r (w .it); there = in-map (doneFor r) (w .there); holds = done-kept r (w .it) .1 ∙ w .holds })
+            (λ nd e m d. let c : Some (λ w. doneFor r w ≡ e) hs = of-map (doneFor r) hs m in nd (c .it) (c .there) (sym (done-kept r (c .it) .1) ∙ ap (λ (w : Enlistment). w .kind) (c .holds) ∙ d)))
+
+        -- before the decision, and after an abort, none is in Failed-to-notify
+        unmoved : (stateAt p tb ≡ transaction.committing → ⊥) → map (doneFor r) hs ≡ hs
+        unmoved n = same-map (doneFor r) hs (λ e m. by-test (isDurableOf r e && isIn enlistment.failedToNotify e)
+            (λ c. absurd (n (of-commit (stateAt p tb) e (row (s .states p (live tb s t p at)) m) (inr (eqb-true (e .state) enlistment.failedToNotify (true-and (isDurableOf r e) (isIn enlistment.failedToNotify e) c .1))))))
+            (λ c. rw c refl))
+
+        stands-still : (stateAt p tb ≡ transaction.committing → ⊥) → M (viewOf t tb) Result
+        stands-still n = stays (look (stateAt p tb) (map (doneFor r) hs)) (view-now ∙ ap (look (stateAt p tb)) (sym (unmoved n))) seen
+
+      lives : M (viewOf t tb) Result
+      lives = by-test over ends (λ b. by-test (eqb (stateAt p tb) transaction.committing) (λ c. goes-on b (eqb-true (stateAt p tb) transaction.committing c)) (λ c. stands-still b (eqb-false (stateAt p tb) transaction.committing c)))
+
+    pub reenlisted-move : Agrees (viewOf t tb) l → M (viewOf t tb) Result
+    reenlisted-move a = by-test (eqb (placeNamed t tb) 0)
+        (λ e. dead (none-absent t tb (eqb-true (placeNamed t tb) 0 e)))
+        (λ e. lives (placeNamed t tb) (stands-sound tb s t (placeNamed t tb) (named-found t tb (eqb-false (placeNamed t tb) 0 e))) a)

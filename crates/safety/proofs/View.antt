@@ -1,0 +1,106 @@
+-- How a table shows a transaction, and that a change of one shows in its own view and in no other.
+use Prim.Native.Nat.{ℕ, zero, suc}
+use native.Mathlib.Omega.{arith}
+use mathlib.Core.Path.{_≡_, refl, sym, _∙_, ap}
+use mathlib.Core.Logic.{inr}
+use mathlib.Core.Bool.{false}
+use mathlib.Core.List.{List}
+use lib.Dec.{eqb}
+use borrow.Author.Tests.{eqb-true, eqb-false}
+use Rattle.lists.proofs.Tests.{by-test, no-clash}
+use Rattle.lists.proofs.Places.{at-below}
+use Rattle.rules.specs.declared.Transaction.{Transaction}
+use Rattle.rules.specs.declared.Enlistment.{Enlistment}
+use Rattle.rules.specs.declared.Table.{Table}
+use Rattle.rules.specs.Identifiers.{Id}
+use Rattle.rules.specs.Table.{noTransaction, isNamed, placeNamed, transactionAt, stateAt, held, inTransactionState, freed, ended, changeHeld, changeTransaction, goTo, emptied, useMore}
+use Rattle.rules.proofs.Frames.{Keeps, held-other, held-transaction, Stands, Absent, stands-place, absent-place, named-found, named-other, at-other, place-kept, state-goes, stands-goes, other-goes, absent-ended}
+use Rattle.safety.proofs.Alone.{View, out, early, voting, single, committing, aborting}
+
+abbrev pub look : ℕ → List Enlistment → View
+look zero hs = out
+look (suc zero) hs = early hs
+look (suc (suc zero)) hs = early hs
+look (suc (suc (suc zero))) hs = voting hs
+look (suc (suc (suc (suc zero)))) hs = single hs
+look (suc (suc (suc (suc (suc zero))))) hs = committing hs
+look (suc (suc (suc (suc (suc (suc zero)))))) hs = aborting
+look (suc (suc (suc (suc (suc (suc (suc n))))))) hs = out
+
+unfoldable pub viewOf : Id → Table → View
+viewOf t tb = look (stateAt (placeNamed t tb) tb) (held (placeNamed t tb) tb)
+
+pub view-stands : (t : Id) (p : ℕ) (tb : Table) → Stands t p tb → viewOf t tb ≡ look (stateAt p tb) (held p tb)
+unfolding viewOf
+view-stands t p tb s = ap (λ q. look (stateAt q tb) (held q tb)) (stands-place t p tb s)
+
+pub state-none : (tb : Table) → stateAt 0 tb ≡ 0
+state-none tb = ap (λ (x : Transaction). x .state) (at-below noTransaction 1 0 (tb .transactions) (omega arith))
+
+pub view-absent : (t : Id) (tb : Table) → Absent t tb → viewOf t tb ≡ out
+unfolding viewOf
+view-absent t tb a = ap (λ q. look (stateAt q tb) (held q tb)) (absent-place t tb a) ∙ ap (λ n. look n (held 0 tb)) (state-none tb)
+
+-- the same place, the same state and the same enlistments there
+pub view-same : (u : Id) (tb tb′ : Table) → placeNamed u tb′ ≡ placeNamed u tb
+    → ((placeNamed u tb ≡ 0 → ⊥) → (stateAt (placeNamed u tb) tb′ ≡ stateAt (placeNamed u tb) tb) × (held (placeNamed u tb) tb′ ≡ held (placeNamed u tb) tb))
+    → viewOf u tb′ ≡ viewOf u tb
+unfolding viewOf
+view-same u tb tb′ e f = rw e (by-test (eqb (placeNamed u tb) 0)
+    (λ z. rw (eqb-true (placeNamed u tb) 0 z, state-none tb, state-none tb′) refl)
+    (λ z. rw (f (eqb-false (placeNamed u tb) 0 z) .0, f (eqb-false (placeNamed u tb) 0 z) .1) refl))
+
+-- a change at p is none of a transaction that stands elsewhere
+pub view-other : (u : Id) (p : ℕ) (f : Transaction → Transaction) (g : Enlistment → Enlistment) (tb : Table)
+    → Keeps g → isNamed u (transactionAt p tb) ≡ false → isNamed u (f (transactionAt p tb)) ≡ false
+    → viewOf u (changeTransaction p f (changeHeld p g tb)) ≡ viewOf u tb
+unfolding changeHeld
+view-other u p f g tb k b a = view-same u tb (changeTransaction p f (changeHeld p g tb)) (place-kept p f (changeHeld p g tb) u b a)
+    (λ n. (ap (λ (x : Transaction). x .state) (at-other p f (changeHeld p g tb) (placeNamed u tb) (elsewhere n)), held-transaction p (placeNamed u tb) f (changeHeld p g tb) ∙ held-other p (placeNamed u tb) g tb k (elsewhere n) n))
+  where
+    elsewhere : (placeNamed u tb ≡ 0 → ⊥) → placeNamed u tb ≡ p → ⊥
+    elsewhere n e = no-clash _ (ap (λ q. isNamed u (transactionAt q tb)) (sym e) ∙ named-found u tb n) b
+
+-- nor is a change of enlistments alone
+pub view-held-other : (u : Id) (p : ℕ) (g : Enlistment → Enlistment) (tb : Table) → Keeps g → isNamed u (transactionAt p tb) ≡ false → viewOf u (changeHeld p g tb) ≡ viewOf u tb
+unfolding changeHeld
+view-held-other u p g tb k b = view-same u tb (changeHeld p g tb) refl
+    (λ n. (refl, held-other p (placeNamed u tb) g tb k (λ e. no-clash _ (ap (λ q. isNamed u (transactionAt q tb)) (sym e) ∙ named-found u tb n) b) n))
+
+pub view-more : (u : Id) (n : ℕ) (tb : Table) → viewOf u (useMore n tb) ≡ viewOf u tb
+unfolding viewOf useMore held
+view-more u n tb = refl
+
+-- ── the transaction at p itself ─────────────────────────────────────────────────────────────────────────────────
+
+pub stands-held : (t : Id) (p q : ℕ) (g : Enlistment → Enlistment) (tb : Table) → Stands t p tb → Stands t p (changeHeld q g tb)
+unfolding changeHeld
+stands-held t p q g tb s = record { here = s .here; alone = s .alone }
+
+pub state-held : (p q : ℕ) (g : Enlistment → Enlistment) (tb : Table) → stateAt q (changeHeld p g tb) ≡ stateAt q tb
+unfolding changeHeld
+state-held p q g tb = refl
+
+module _ (t : Id) (p : ℕ) (tb : Table) (s : Stands t p tb) where
+  pub view-goes : (n : ℕ) (g : Enlistment → Enlistment) → (n ≡ 0 → ⊥) → viewOf t (goTo p n (changeHeld p g tb)) ≡ look n (held p (changeHeld p g tb))
+  view-goes n g nz = view-stands t p (goTo p n (changeHeld p g tb)) (stands-goes t p n (changeHeld p g tb) at nz)
+      ∙ rw (state-goes t p n (changeHeld p g tb) at, held-transaction p p (inTransactionState n) (changeHeld p g tb)) refl
+    where
+      at : Stands t p (changeHeld p g tb)
+      at = stands-held t p p g tb s
+
+  pub goes-other : (n : ℕ) (g : Enlistment → Enlistment) (u : Id) → Keeps g → (u ≡ t → ⊥) → viewOf u (goTo p n (changeHeld p g tb)) ≡ viewOf u tb
+  goes-other n g u k d = view-other u p (inTransactionState n) g tb k (named-other t u (transactionAt p tb) (s .here) d) (other-goes t p n tb s u d)
+
+  pub view-ends : viewOf t (emptied p tb) ≡ out
+  view-ends = view-absent t (emptied p tb) (absent-ended t p (changeHeld p freed tb) (stands-held t p p freed tb s .alone))
+
+  pub view-changes : (g : Enlistment → Enlistment) → viewOf t (changeHeld p g tb) ≡ look (stateAt p tb) (held p (changeHeld p g tb))
+  unfolding changeHeld
+  view-changes g = view-stands t p (changeHeld p g tb) (stands-held t p p g tb s)
+
+pub freed-keeps : Keeps freed
+freed-keeps e = inr refl
+
+pub ends-other : (u : Id) (p : ℕ) (tb : Table) → isNamed u (transactionAt p tb) ≡ false → viewOf u (emptied p tb) ≡ viewOf u tb
+ends-other u p tb b = view-other u p ended freed tb freed-keeps b refl
