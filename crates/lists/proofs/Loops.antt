@@ -6,9 +6,9 @@ use native.Mathlib.Numerals.{add-one}
 use mathlib.Core.Path.{_≡_, refl, ap, sym, _∙_}
 use mathlib.Core.Logic.{_⊎_, inl, inr}
 use mathlib.Core.Bool.{Bool, true, false, cond, not, _&&_, _||_}
-use mathlib.Core.List.{List, [], _∷_, map}
-use lib.ListN.{length, getD, set, drop, length-set, length-map, drop-of-length-le}
-use lib.Seq.{drop-cons}
+use mathlib.Core.List.{List, [], _∷_, _++_, map, append-nil, append-assoc}
+use lib.ListN.{length, getD, set, take, drop, length-set, length-map, drop-of-length-le}
+use lib.Seq.{drop-cons, take-all, take-suc-set}
 use lib.Dec.{eqb}
 use borrow.Author.Tests.{eq-eqb, ne-eqb, eqb-true, eqb-false}
 use Rattle.lists.specs.Lists.{all, any, filter, count, firstOr}
@@ -52,14 +52,6 @@ module _ {A B : Type 0} {g : ℕ → List A → B} {n : ℕ} {l : List A} where
 
   pub look-done : {i : ℕ} {r : B} → Looked g n l i → n ≤ i → g i [] ≡ r → r ≡ g 0 l
   look-done {i} p h e = sym ((rw (drop-done l i (omega arith)) at (p .same)) ∙ e)
-
--- the same where a test decides: it says b, and so the loop goes on (miss) or stops (hit)
-module _ {A B : Type 0} {g : ℕ → List A → B} {n : ℕ} {l : List A} (f : A → Bool) where
-  pub miss : {i : ℕ} {b : Bool} (d : A) → Looked g n l i → i < n → f (getD l i d) ≡ b → ((x : A) (xs : List A) → f x ≡ b → g i (x ∷ xs) ≡ g (i + 1) xs) → Looked g n l (i + 1)
-  miss {i} d p h t e = look-next d p h (λ xs. e (getD l i d) xs t)
-
-  pub hit : {i : ℕ} {r : B} {b : Bool} (d : A) → Looked g n l i → i < n → f (getD l i d) ≡ b → ((x : A) (xs : List A) → f x ≡ b → g i (x ∷ xs) ≡ r) → r ≡ g 0 l
-  hit {i} d p h t e = look-stop d p h (λ xs. e (getD l i d) xs t)
 
 -- ── the first place that passes f ───────────────────────────────────────────────────────────────────────────────
 
@@ -235,3 +227,29 @@ module _ {A : Type 0} {n : ℕ} {h : List A → List A} where
 -- f(x) is put for each x
 pub map-again : {A : Type 0} {n : ℕ} {f : A → A} {whole l : List A} {i : ℕ} {y : A} (d : A) → Rewritten n (map f) whole l i → i < n → y ≡ f (getD l i d) → Rewritten n (map f) whole (set l i y) (i + 1)
 map-again {f = f} d p h q = rewrite-again d p h (λ xs. ap (λ z. z ∷ map f xs) (sym q))
+
+-- ── an array that is filled from another, side by side ──────────────────────────────────────────────────────────
+
+pub record Filled {A B : Type 0} (f : ℕ → List A → List B) (n : ℕ) (l : List A) (out : List B) (i : ℕ) : Type 0 where
+  pub within : i ≤ n
+  pub long : length l ≡ n
+  pub long-out : length out ≡ n
+  pub same : take i out ++ f i (drop i l) ≡ f 0 l
+
+module _ {A B : Type 0} {f : ℕ → List A → List B} {n : ℕ} {l : List A} where
+  pub fill-start : {out : List B} → length l ≡ n → length out ≡ n → Filled f n l out 0
+  fill-start h k = record { within = omega arith; long = h; long-out = k; same = refl }
+
+  pub fill-again : {out : List B} {i : ℕ} {y : B} (d : A) → Filled f n l out i → i < n → ((xs : List A) → f i (getD l i d ∷ xs) ≡ y ∷ f (i + 1) xs) → Filled f n l (set out i y) (i + 1)
+  fill-again {out} {i} {y} d p h e = record {
+    within = omega arith;
+    long = p .long;
+    long-out = simp length-set (p .long-out);
+    same = rw (add-one, take-suc-set out i y (omega arith), append-assoc, ← add-one i, ← e (drop (i + 1) l), ← drop-at l i d (omega arith)) (p .same);
+  }
+
+  pub fill-done : {out : List B} {i : ℕ} → Filled f n l out i → n ≤ i → f n [] ≡ [] → out ≡ f 0 l
+  fill-done {out} {i} p h e =
+      let z : i ≡ n = omega arith in
+      let q : take n out ++ f n (drop n l) ≡ f 0 l = rw z at (p .same) in
+      sym (append-nil out) ∙ rw (take-all n out (omega arith), drop-done l n (omega arith), e) at q

@@ -1,5 +1,4 @@
 -- Two tests decide.
-use borrow.Author.Needs.{needs}
 use Rattle.passes.proofs.hears_abort.Statement.{statement}
 use Rattle.passes.proofs.hears_abort.Tie as tie
 
