@@ -1,2 +1,1 @@
-pub mod Backwards
 pub mod Determined

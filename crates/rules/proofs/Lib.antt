@@ -1,1 +1,6 @@
 pub mod Computing
+pub mod Bytes
+pub mod Identifiers
+pub mod Soundness
+pub mod Refused
+pub mod Checks

@@ -1,20 +1,23 @@
--- `dispenser::largest` meets its contract: the loop holds the largest number of the places behind it.
+-- `dispenser::largest` meets its contract: the loop goes from the last place to the first, and holds the largest number of those behind it.
+use mathlib.Core.Path.{refl}
 use borrow.Author.Needs.{needs}
-use Rattle.dispenser.proofs.Backwards.{Behind, long-of, behind-start, behind-again, behind-done}
+use Rattle.lists.proofs.Loops.{long, Gathered, gather-start, gather-again, gather-done}
+use Rattle.rules.specs.Dispenser.{largestIn}
 use Rattle.dispenser.proofs.largest.Statement.{statement}
 use Rattle.dispenser.proofs.largest.Tie as tie
 
 pub largest-spec : {M : Type 1} → statement M
+unfolding largestIn
 largest-spec =
     tie.close
     (tie.spec
-    (λ table i₀ most₀ i most. Behind (table .enlistments) i most)
+    (λ table i₀ most₀ i most. Gathered (λ k es. largestIn es) 128 (table .enlistments) most i)
     (λ table i₀ most₀ i most. i)
-    (λ c. behind-start (search long-of))
+    (λ c. gather-start (search long) refl)
     (λ c. search needs)
     (λ c. search needs)
     (λ c. search needs)
     (λ c κs. search needs)
     (λ c. search needs)
-    (λ c. behind-again _ (c .before .before .before .loop .inv) (c .before .before .loop-test .taken) (c .larger .ensures))
-    (λ c. behind-done (c .before .loop .inv) (c .loop-test .left)))
+    (λ c. gather-again _ (c .before .before .before .loop .inv) (c .before .before .loop-test .taken) (λ xs e. rw e at (c .larger .ensures)))
+    (λ c. gather-done (c .before .loop .inv) (c .loop-test .left)))
