@@ -8,12 +8,12 @@ ghost use Rattle.rules.specs.Events.{zeroedOf, abortedOf, committedOf};
 ghost use Rattle.rules.specs.Sound.{isOpen, openCount};
 ghost use Rattle.passes.specs.Census.{censusOf, moreOf, countedOf, Below};
 ghost use Rattle.passes.specs.Change.{changeOf};
-use rules::Enlistment;
-use rules::Table;
+
 use rules::enlistment_state;
 use rules::kinds;
 use rules::marks;
 use rules::transaction_state;
+use rules::{Enlistment, Table};
 
 // How many a transaction holds, and how many of them are such.
 pub struct Census {
