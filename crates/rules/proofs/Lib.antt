@@ -4,3 +4,4 @@ pub mod Identifiers
 pub mod Soundness
 pub mod Refused
 pub mod Checks
+pub mod Records
