@@ -11,7 +11,7 @@ use lib.Seq.{sets}
 use borrow.Author.Tests.{ne-eqb, eqb-true}
 use Rattle.lists.proofs.Loops.{Rewritten, rewrite-again, drop-at, drop-done}
 use Rattle.rules.specs.Identifiers.{sameBytes}
-use Rattle.rules.specs.Log.{header, number4, commitTag, forgetTag}
+use Rattle.rules.specs.Log.{number4, commitTag, forgetTag}
 use Rattle.log_reader.specs.Reading.{bytesAt}
 
 -- ── bytes ───────────────────────────────────────────────────────────────────────────────────────────────────────

@@ -1,13 +1,12 @@
 -- Loops over the entries of a record, and over the open records: the next is read from the log, and what is left gives the whole.
-use Prim.Native.Nat.{ℕ, zero, suc, _+_, _-_, _*_, _≤_, _<_, min}
+use Prim.Native.Nat.{ℕ, zero, suc, _+_, _*_, _≤_, _<_}
 use native.Mathlib.Omega.{arith}
 use native.Mathlib.Numerals.{add-one}
 use native.Mathlib.Nat.{le-of-suc-le-suc, not-suc-le-zero}
 use mathlib.Core.Path.{_≡_, refl, ap, sym, _∙_}
 use mathlib.Core.Bool.{Bool, true, false, _||_, or-assoc}
 use mathlib.Core.List.{List, [], _∷_, _++_, map}
-use lib.Dec.{eqb, ltb}
-use lib.ListN.{length, getD, drop, take, length-map, length-take, length-append}
+use lib.ListN.{length, getD, drop, length-map, length-take, length-append}
 use lib.Seq.{drop-cons, getD-take}
 use Rattle.lists.specs.Lists.{any, differ}
 use Rattle.lists.proofs.Loops.{drop-done}

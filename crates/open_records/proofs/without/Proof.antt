@@ -1,6 +1,6 @@
 -- `open_records::without` meets its contract: what is left of the places, behind those that are kept so far, gives the whole.
 use Prim.Native.Nat.{_-_}
-use mathlib.Core.Path.{refl, sym}
+use mathlib.Core.Path.{refl}
 use borrow.Author.Needs.{needs}
 use Rattle.open_records.specs.Opening.{startsOf, noneOpen, keptFrom}
 use Rattle.open_records.proofs.Rows.{Left, left-next, left-done, start-next, starts-over}
