@@ -192,7 +192,7 @@ fn read_records(log: &[u8], stored: usize) -> Readings
         } else {
             return Readings {
                 damaged: true,
-                used: at,
+                used: 0,
                 records: records,
             };
         }

@@ -5,3 +5,4 @@ pub mod Soundness
 pub mod Refused
 pub mod Checks
 pub mod Records
+pub mod Restarts
