@@ -5,13 +5,13 @@ use native.Mathlib.Nat.{le-of-suc-le-suc, not-suc-le-zero}
 use native.Mathlib.Numerals.{add-one}
 use mathlib.Core.Path.{_≡_, refl, ap, sym, _∙_}
 use mathlib.Core.Logic.{_⊎_, inl, inr}
-use mathlib.Core.Bool.{Bool, true, false, not}
-use mathlib.Core.List.{List, [], _∷_, map}
-use lib.ListN.{length, getD, set, drop, length-set, length-map, drop-of-length-le}
-use lib.Seq.{drop-cons}
+use mathlib.Core.Bool.{Bool, true, false, cond, not, _&&_, _||_}
+use mathlib.Core.List.{List, [], _∷_, _++_, map, append-nil, append-assoc}
+use lib.ListN.{length, getD, set, take, drop, length-set, length-map, drop-of-length-le}
+use lib.Seq.{drop-cons, take-all, take-suc-set}
 use lib.Dec.{eqb}
-use borrow.Author.Tests.{eq-eqb, ne-eqb}
-use Rattle.lists.specs.Lists.{any, firstOr}
+use borrow.Author.Tests.{eq-eqb, ne-eqb, eqb-true, eqb-false}
+use Rattle.lists.specs.Lists.{all, any, filter, count, firstOr}
 use Rattle.lists.specs.Places.{placeFrom, placeOf, atFrom, at, changeAt}
 use Rattle.lists.proofs.Tests.{by-test, by-either}
 use Rattle.lists.proofs.Places.{at-is, change-is}
@@ -52,14 +52,6 @@ module _ {A B : Type 0} {g : ℕ → List A → B} {n : ℕ} {l : List A} where
 
   pub look-done : {i : ℕ} {r : B} → Looked g n l i → n ≤ i → g i [] ≡ r → r ≡ g 0 l
   look-done {i} p h e = sym ((rw (drop-done l i (omega arith)) at (p .same)) ∙ e)
-
--- the same where a test decides: it says b, and so the loop goes on (miss) or stops (hit)
-module _ {A B : Type 0} {g : ℕ → List A → B} {n : ℕ} {l : List A} (f : A → Bool) where
-  pub miss : {i : ℕ} {b : Bool} (d : A) → Looked g n l i → i < n → f (getD l i d) ≡ b → ((x : A) (xs : List A) → f x ≡ b → g i (x ∷ xs) ≡ g (i + 1) xs) → Looked g n l (i + 1)
-  miss {i} d p h t e = look-next d p h (λ xs. e (getD l i d) xs t)
-
-  pub hit : {i : ℕ} {r : B} {b : Bool} (d : A) → Looked g n l i → i < n → f (getD l i d) ≡ b → ((x : A) (xs : List A) → f x ≡ b → g i (x ∷ xs) ≡ r) → r ≡ g 0 l
-  hit {i} d p h t e = look-stop d p h (λ xs. e (getD l i d) xs t)
 
 -- ── the first place that passes f ───────────────────────────────────────────────────────────────────────────────
 
@@ -112,6 +104,39 @@ module _ {A : Type 0} (f : A → Bool) where
   pub first-at-place : (d : A) (xs : List A) → firstOr d f xs ≡ at d (placeOf f xs) xs
   first-at-place d xs = first-from d 1 xs (omega arith)
 
+-- what a count says: whether any passes, and whether all do
+module _ {A : Type 0} (f : A → Bool) where
+  pub count-most : (xs : List A) → count f xs ≤ length xs
+  unfolding count
+  count-most [] = omega arith
+  count-most (x ∷ xs) = let h : count f xs ≤ length xs = count-most xs in by-test (f x) (λ e. rw e (omega arith)) (λ e. rw e (omega arith))
+
+  pub any-count : (xs : List A) → any f xs ≡ not (eqb (count f xs) 0)
+  unfolding any count
+  any-count [] = refl
+  any-count (x ∷ xs) = by-test (f x) (λ e. rw (e, ne-eqb (suc (count f xs)) 0 (omega arith))) (λ e. rw e (any-count xs))
+
+  pub all-count : (xs : List A) → all f xs ≡ eqb (count f xs) (length xs)
+  unfolding all count
+  all-count [] = sym (eq-eqb 0 0 refl)
+  all-count (x ∷ xs) = let h : count f xs ≤ length xs = count-most xs in by-test (f x)
+      (λ e. rw e (all-count xs ∙ by-test (eqb (count f xs) (length xs))
+      (λ q. q ∙ sym (eq-eqb (suc (count f xs)) (suc (length xs)) (ap suc (eqb-true _ _ q))))
+      (λ q. let n : count f xs ≡ length xs → ⊥ = eqb-false _ _ q in q ∙ sym (ne-eqb (suc (count f xs)) (suc (length xs)) (λ z. n (omega arith))))))
+      (λ e. rw (e, ne-eqb (count f xs) (suc (length xs)) (omega arith)))
+
+-- tests of those that pass another
+module _ {A : Type 0} (f g : A → Bool) where
+  pub any-filter : (xs : List A) → any f (filter g xs) ≡ any (λ x. g x && f x) xs
+  unfolding any filter
+  any-filter [] = refl
+  any-filter (x ∷ xs) = by-test (g x) (λ e. rw e (ap (λ b. f x || b) (any-filter xs))) (λ e. rw e (any-filter xs))
+
+  pub first-filter : (d : A) (xs : List A) → firstOr d f (filter g xs) ≡ firstOr d (λ x. g x && f x) xs
+  unfolding firstOr filter
+  first-filter d [] = refl
+  first-filter d (x ∷ xs) = by-test (g x) (λ e. rw e (ap (λ y. cond (f x) x y) (first-filter d xs))) (λ e. rw e (first-filter d xs))
+
 -- what is put at a place is what the change makes of what stands there
 pub change-there : {A : Type 0} (f : A → A) (d : A) (p : ℕ) (xs : List A) → changeAt p f xs ≡ changeAt p (λ y. f (at d p xs)) xs
 change-there f d p xs = rw (change-is f p d xs, change-is (λ y. f (at d p xs)) p d xs, at-is d p xs) (by-test (eqb p 0) (λ e. rw e) (λ e. rw e))
@@ -148,10 +173,12 @@ module _ {A B : Type 0} {f : ℕ → List A → B} {n : ℕ} {l : List A} where
   pub gather-start : {b : B} → length l ≡ n → b ≡ f n [] → Gathered f n l b n
   gather-start h e = record { within = omega arith; long = h; same = rw (drop-done l n (omega arith)) e }
 
-  pub gather-again : {b b′ : B} {i : ℕ} (d : A) → Gathered f n l b i → 0 < i → ((xs : List A) → b ≡ f i xs → b′ ≡ f (i - 1) (getD l (i - 1) d ∷ xs)) → Gathered f n l b′ (i - 1)
-  gather-again {b} {b′} {i} d p h e =
+  -- g puts one more in front
+  pub gather-again : {b b′ : B} {i : ℕ} (g : A → B → B) (d : A) → Gathered f n l b i → 0 < i → b′ ≡ g (getD l (i - 1) d) b
+      → ((x : A) (xs : List A) → f (i - 1) (x ∷ xs) ≡ g x (f i xs)) → Gathered f n l b′ (i - 1)
+  gather-again {b} {b′} {i} g d p h q e =
       let back : i - 1 + 1 ≡ i = omega arith in
-      record { within = omega arith; long = p .long; same = rw (drop-at l (i - 1) d (omega arith), back) (e (drop i l) (p .same)) }
+      record { within = omega arith; long = p .long; same = rw (drop-at l (i - 1) d (omega arith), back, e (getD l (i - 1) d) (drop i l), ← p .same) q }
 
   pub gather-done : {b : B} {i : ℕ} → Gathered f n l b i → i ≤ 0 → b ≡ f 0 l
   gather-done {b} {i} p h = let z : i ≡ 0 = omega arith in rw z at (p .same)
@@ -200,3 +227,29 @@ module _ {A : Type 0} {n : ℕ} {h : List A → List A} where
 -- f(x) is put for each x
 pub map-again : {A : Type 0} {n : ℕ} {f : A → A} {whole l : List A} {i : ℕ} {y : A} (d : A) → Rewritten n (map f) whole l i → i < n → y ≡ f (getD l i d) → Rewritten n (map f) whole (set l i y) (i + 1)
 map-again {f = f} d p h q = rewrite-again d p h (λ xs. ap (λ z. z ∷ map f xs) (sym q))
+
+-- ── an array that is filled from another, side by side ──────────────────────────────────────────────────────────
+
+pub record Filled {A B : Type 0} (f : ℕ → List A → List B) (n : ℕ) (l : List A) (out : List B) (i : ℕ) : Type 0 where
+  pub within : i ≤ n
+  pub long : length l ≡ n
+  pub long-out : length out ≡ n
+  pub same : take i out ++ f i (drop i l) ≡ f 0 l
+
+module _ {A B : Type 0} {f : ℕ → List A → List B} {n : ℕ} {l : List A} where
+  pub fill-start : {out : List B} → length l ≡ n → length out ≡ n → Filled f n l out 0
+  fill-start h k = record { within = omega arith; long = h; long-out = k; same = refl }
+
+  pub fill-again : {out : List B} {i : ℕ} {y : B} (d : A) → Filled f n l out i → i < n → ((xs : List A) → f i (getD l i d ∷ xs) ≡ y ∷ f (i + 1) xs) → Filled f n l (set out i y) (i + 1)
+  fill-again {out} {i} {y} d p h e = record {
+    within = omega arith;
+    long = p .long;
+    long-out = simp length-set (p .long-out);
+    same = rw (add-one, take-suc-set out i y (omega arith), append-assoc, ← add-one i, ← e (drop (i + 1) l), ← drop-at l i d (omega arith)) (p .same);
+  }
+
+  pub fill-done : {out : List B} {i : ℕ} → Filled f n l out i → n ≤ i → f n [] ≡ [] → out ≡ f 0 l
+  fill-done {out} {i} p h e =
+      let z : i ≡ n = omega arith in
+      let q : take n out ++ f n (drop n l) ≡ f 0 l = rw z at (p .same) in
+      sym (append-nil out) ∙ rw (take-all n out (omega arith), drop-done l n (omega arith), e) at q

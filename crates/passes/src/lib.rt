@@ -4,16 +4,16 @@ ghost use mathlib.Core.Path.{_≡_};
 ghost use mathlib.Core.Bool.{cond};
 ghost use Prim.Native.Nat.{_≤_, _<_};
 ghost use Rattle.rules.specs.Table.{held, heldBy, freed, inState, onNumber, onHeld, changeHeld};
-ghost use Rattle.rules.specs.Events.{zeroedOf, abortedOf, committedOf};
+ghost use Rattle.rules.specs.Events.{zeroedOf, hearsAbort, abortedOf, committedOf};
 ghost use Rattle.rules.specs.Sound.{isOpen, openCount};
 ghost use Rattle.passes.specs.Census.{censusOf, moreOf, countedOf, Below};
 ghost use Rattle.passes.specs.Change.{changeOf};
-
+use rules::Enlistment;
+use rules::Table;
 use rules::enlistment_state;
 use rules::kinds;
 use rules::marks;
 use rules::transaction_state;
-use rules::{Enlistment, Table};
 
 // How many a transaction holds, and how many of them are such.
 pub struct Census {
@@ -64,7 +64,7 @@ fn counted_held(c: Census, e: Enlistment, p: u8) -> Census
     if mine { counted(c, e) } else { c }
 }
 
-pub fn census(table: Table, p: u8) -> Census
+pub fn count_held(table: Table, p: u8) -> Census
     ensures { λ r. ⌜ r ≡ censusOf (held p table) ⌝ }
 {
     let mut c = Census {
@@ -135,16 +135,24 @@ fn zeroed(e: Enlistment) -> Enlistment
     e
 }
 
+pub fn hears_abort(e: Enlistment) -> bool
+    ensures { λ r. ⌜ r ≡ hearsAbort e ⌝ }
+{
+    let some = 0 < e.state;
+    if some {
+        e.state <= enlistment_state::PREPARED
+    } else {
+        false
+    }
+}
+
 fn aborted(e: Enlistment) -> Enlistment
     ensures { λ r. ⌜ r ≡ abortedOf e ⌝ }
 {
-    let some = 0 < e.state;
-    let early = e.state <= enlistment_state::PREPARED;
+    let hears = hears_abort(e);
     let lost = e.state == enlistment_state::PREPARED_LOST;
-    if some {
-        if early {
-            return in_state(e, enlistment_state::TOLD_ABORT);
-        }
+    if hears {
+        return in_state(e, enlistment_state::TOLD_ABORT);
     }
     if lost {
         return in_state(e, enlistment_state::DONE);
@@ -207,7 +215,7 @@ pub fn is_open(table: Table, p: u8, state: u8) -> bool
 {
     let committing = state == transaction_state::COMMITTING;
     if committing {
-        let c = census(table, p);
+        let c = count_held(table, p);
         return c.durable != 0;
     }
     false

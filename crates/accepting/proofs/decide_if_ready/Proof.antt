@@ -1,0 +1,24 @@
+-- The test is that of the definition, by what is counted.
+use mathlib.Core.Path.{refl, sym, ap, _∙_}
+use mathlib.Core.Bool.{not}
+use lib.Dec.{eqb}
+use borrow.Author.Needs.{needs}
+use Rattle.lists.proofs.Loops.{any-count}
+use Rattle.rules.specs.Table.{isIn}
+use Rattle.rules.specs.EnlistmentState.{preparing}
+use Rattle.rules.specs.Events.{follow}
+use Rattle.passes.specs.Census.{censusOf}
+use Rattle.accepting.proofs.decide_if_ready.Statement.{statement}
+use Rattle.accepting.proofs.decide_if_ready.Tie as tie
+
+pub decide-if-ready-spec : {M : Type 1} → statement M
+unfolding follow censusOf
+decide-if-ready-spec =
+    tie.close
+    (tie.spec
+    (λ c κs. search needs)
+    (λ c κs. search needs)
+    (λ c. rw (any-count (isIn preparing), sym (ap (λ m. not (eqb (m .preparing) 0)) (c .before .before .before .count-held .ensures)) ∙ c .before .if1 .taken) (record { answer = c .quietly .ensures; log = refl }))
+    (λ c κs. search needs)
+    (λ c. search needs)
+    (λ c. rw (any-count (isIn preparing), sym (ap (λ m. not (eqb (m .preparing) 0)) (c .before .before .before .before .before .before .count-held .ensures)) ∙ c .before .before .before .before .if1 .left) (c .before .before .decide .ensures)))

@@ -1,0 +1,12 @@
+-- Signals and table are those of the definition.
+use borrow.Author.Needs.{needs}
+use Rattle.deciding.proofs.commit_unlogged.Statement.{statement}
+use Rattle.deciding.proofs.commit_unlogged.Tie as tie
+
+pub commit-unlogged-spec : {M : Type 1} → statement M
+commit-unlogged-spec =
+    tie.close
+    (tie.spec
+    (λ c κs. search needs)
+    (λ c κs. search needs)
+    (λ c. rw (← c .before .commit-signals .ensures, ← c .committing .ensures)))

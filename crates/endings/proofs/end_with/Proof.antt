@@ -1,0 +1,14 @@
+-- The ending, and one signal.
+use mathlib.Core.Path.{ap, _∙_}
+use borrow.Author.Needs.{needs}
+use Rattle.endings.proofs.end_with.Statement.{statement}
+use Rattle.endings.proofs.end_with.Tie as tie
+
+pub end-with-spec : {M : Type 1} → statement M
+end-with-spec =
+    tie.close
+    (tie.spec
+    (λ c κs. search needs)
+    (λ c κs. search needs)
+    (λ c. search needs)
+    (λ c. record { answer = rw (← c .before .before .before .before .to-one .ensures, ← c .before .before .end .ensures .0 .table); log = c .before .before .end .ensures .0 .log }))

@@ -1,0 +1,18 @@
+-- The pieces of the record follow one another.
+use native.Mathlib.Omega.{arith}
+use borrow.Author.Needs.{needs}
+use Rattle.log.proofs.Stores.{forget-stored, forget-length}
+use Rattle.log.proofs.put_forget.Statement.{statement}
+use Rattle.log.proofs.put_forget.Tie as tie
+
+pub put-forget-spec : {M : Type 1} → statement M
+put-forget-spec =
+    tie.close
+    (tie.spec
+    (λ c κs. search needs)
+    (λ c. search needs)
+    (λ c κs. search needs)
+    (λ c. search needs)
+    (λ c κs. search needs)
+    (λ c. search needs)
+    (λ c. (forget-stored _ (c .before .before .before .before .before .before .before .before .before .before .before .before .before .args .used) _ (c .before .before .before .before .before .before .before .before .before .before .put .ensures) (c .before .before .before .before .before .before .put2 .ensures) (c .before .before .put-identifier .ensures .0), forget-length _ (c .before .before .put-identifier .ensures .1), omega arith)))

@@ -1,0 +1,91 @@
+// The log's records, stored at an offset. What would lie past the end of the log is not stored.
+
+ghost use mathlib.Core.Path.{_≡_};
+ghost use mathlib.Core.List.{map};
+ghost use Prim.Native.Nat.{_+_, _*_, _<_, _≤_};
+ghost use lib.ListN.{length, set, take};
+ghost use lib.Seq.{sets};
+ghost use Rattle.rules.specs.Log.{Record, low4, entryBytes, entriesBytes, recordBytes, written};
+ghost use Rattle.rules.specs.Events.{entryOf};
+use rules::Enlistment;
+use rules::sizes;
+use signals::Line;
+
+fn put(log: &mut [u8], at: usize, byte: u8)
+    ensures { λ r. ⌜ now (log .exit) ≡ set (now (log .entry)) at byte ⌝ }
+{
+    if at < log.len() {
+        log[at] = byte;
+    }
+}
+
+fn put_identifier(log: &mut [u8], at: usize, id: [u8; 16])
+    requires { ⌜ at < 8589934592 ⌝ }
+    ensures { λ r. ⌜ (now (log .exit) ≡ sets (now (log .entry)) at id) × (length id ≡ 16) ⌝ }
+{
+    let mut i: usize = 0;
+    while i < 16 {
+        put(log, at + i, id[i]);
+        i += 1;
+    }
+}
+
+// 4 bytes, low first.
+fn put_number(log: &mut [u8], at: usize, n: u32)
+    requires { ⌜ at < 8589934592 ⌝ }
+    ensures { λ r. ⌜ now (log .exit) ≡ sets (now (log .entry)) at (low4 n) ⌝ }
+{
+    put(log, at, (n % 256) as u8);
+    put(log, at + 1, (n / 256 % 256) as u8);
+    put(log, at + 2, (n / 65536 % 256) as u8);
+    put(log, at + 3, (n / 16777216 % 256) as u8);
+}
+
+fn put_entry(log: &mut [u8], at: usize, e: Enlistment)
+    requires { ⌜ at < 8589934000 ⌝ }
+    ensures { λ r. ⌜ (now (log .exit) ≡ sets (now (log .entry)) at (entryBytes (entryOf e))) × (length (entryBytes (entryOf e)) ≡ 20) ⌝ }
+{
+    let r = e.rm;
+    let rm = r.0;
+    put_identifier(log, at, rm);
+    put_number(log, at + 16, e.number);
+}
+
+fn put_entries(log: &mut [u8], at: usize, entries: [Enlistment; 17], count: usize)
+    requires { ⌜ (count ≤ 17) × (at < 8589930000) ⌝ }
+    ensures { λ r. ⌜ (now (log .exit) ≡ sets (now (log .entry)) at (entriesBytes (map entryOf (take count entries)))) × (length (entriesBytes (map entryOf (take count entries))) ≡ 20 * count) ⌝ }
+{
+    let mut i: usize = 0;
+    while i < count {
+        let e = entries[i];
+        put_entry(log, at + 20 * i, e);
+        i += 1;
+    }
+}
+
+// Its size is returned.
+pub fn put_commit(log: &mut [u8], used: u32, id: [u8; 16], line: Line) -> u32
+    requires { ⌜ line .count ≤ 17 ⌝ }
+    ensures { λ r. ⌜ (now (log .exit) ≡ written used (recordBytes (Record.commit id (map entryOf (take (line .count) (line .items))))) (now (log .entry)))
+        × (r ≡ length (recordBytes (Record.commit id (map entryOf (take (line .count) (line .items)))))) × (r ≤ 358) ⌝ }
+{
+    let at = used as usize;
+    let entries = line.items;
+    let count = line.count;
+    put(log, at, 1);
+    put(log, at + 1, count);
+    put_identifier(log, at + 2, id);
+    put_entries(log, at + 18, entries, count as usize);
+    sizes::RECORD + sizes::ENTRY * (count as u32)
+}
+
+pub fn put_forget(log: &mut [u8], used: u32, id: [u8; 16]) -> u32
+    ensures { λ r. ⌜ (now (log .exit) ≡ written used (recordBytes (Record.forget id)) (now (log .entry)))
+        × (r ≡ length (recordBytes (Record.forget id))) × (r ≤ 358) ⌝ }
+{
+    let at = used as usize;
+    put(log, at, 2);
+    put(log, at + 1, 0);
+    put_identifier(log, at + 2, id);
+    sizes::RECORD
+}

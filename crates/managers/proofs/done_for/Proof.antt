@@ -1,0 +1,15 @@
+-- Two tests decide.
+use mathlib.Core.Path.{sym, _∙_}
+use borrow.Author.Needs.{needs}
+use Rattle.managers.proofs.done_for.Statement.{statement}
+use Rattle.managers.proofs.done_for.Tie as tie
+
+pub done-for-spec : {M : Type 1} → statement M
+done-for-spec =
+    tie.close
+    (tie.spec
+    (λ c κs. search needs)
+    (λ c κs. search needs)
+    (λ c. rw (sym (c .before .before .before .before .is-durable-of .ensures) ∙ c .before .before .if1 .taken, c .before .if2 .taken) (c .in-state .ensures))
+    (λ c. rw (sym (c .before .before .before .is-durable-of .ensures) ∙ c .before .if1 .taken, c .if2 .left))
+    (λ c. rw (sym (c .before .before .is-durable-of .ensures) ∙ c .if1 .left)))

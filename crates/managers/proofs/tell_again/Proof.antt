@@ -1,0 +1,27 @@
+-- A pass of the change over the places.
+use Prim.Native.Nat.{_-_}
+use borrow.Author.Needs.{needs}
+use Rattle.lists.proofs.Loops.{long}
+use Rattle.rules.specs.Table.{onHeld, changeHeld}
+use Rattle.rules.specs.Events.{toldAgain}
+use Rattle.passes.proofs.Passed.{Passed, pass-start, pass-again, pass-done}
+use Rattle.managers.proofs.tell_again.Statement.{statement}
+use Rattle.managers.proofs.tell_again.Tie as tie
+
+pub tell-again-spec : {M : Type 1} → statement M
+unfolding changeHeld
+tell-again-spec =
+    tie.close
+    (tie.spec
+    (λ p rm u₀ i₀ u i. Passed (onHeld p (toldAgain rm)) u₀ u i)
+    (λ p rm u₀ i₀ u i. 128 - i)
+    (λ c. pass-start (search long))
+    (λ c. search needs)
+    (λ c. search needs)
+    (λ c κs. search needs)
+    (λ c. search needs)
+    (λ c. search needs)
+    (λ c. search needs)
+    (λ c. search needs)
+    (λ c. pass-again _ (c .before .before .before .loop .inv) (c .before .before .loop-test .taken) (c .told-again .ensures))
+    (λ c. pass-done (c .before .loop .inv) (c .loop-test .left)))

@@ -1,0 +1,21 @@
+-- The checks of the definition, in its order.
+use borrow.Author.Needs.{needs}
+use Rattle.lists.proofs.Loops.{any-place}
+use Rattle.rules.specs.Table.{isNumbered}
+use Rattle.rules.specs.Refusals.{firstOf}
+use Rattle.refusals.proofs.about_one.Statement.{statement}
+use Rattle.refusals.proofs.about_one.Tie as tie
+
+pub about-one-spec : {M : Type 1} → statement M
+unfolding firstOf
+about-one-spec =
+    tie.close
+    (tie.spec
+    (λ c. rw (c .if1 .taken))
+    (λ c κs. search needs)
+    (λ c. rw (c .before .before .if1 .left, any-place (isNumbered (c .before .before .before .args .n)), ← c .before .place-numbered .ensures, c .if2 .taken))
+    (λ c κs. search needs)
+    (λ c κs. search needs)
+    (λ c κs. search needs)
+    (λ c. rw (c .before .before .before .before .before .before .if1 .left, any-place (isNumbered (c .before .before .before .before .before .before .before .args .n)), ← c .before .before .before .before .before .place-numbered .ensures, c .before .before .before .before .if2 .left, ← c .before .before .before .numbered .ensures, ← c .before .before .reaction .ensures, ← c .before .is-refused .ensures, c .if3 .taken))
+    (λ c. rw (c .before .before .before .before .before .before .if1 .left, any-place (isNumbered (c .before .before .before .before .before .before .before .args .n)), ← c .before .before .before .before .before .place-numbered .ensures, c .before .before .before .before .if2 .left, ← c .before .before .before .numbered .ensures, ← c .before .before .reaction .ensures, ← c .before .is-refused .ensures, c .if3 .left)))

@@ -1,0 +1,19 @@
+-- The checks of the definition, in its order.
+use mathlib.Core.Path.{sym, ap, _∙_}
+use borrow.Author.Needs.{needs}
+use Rattle.rules.specs.Refusals.{firstOf}
+use Rattle.refusals.proofs.commit.Statement.{statement}
+use Rattle.refusals.proofs.commit.Tie as tie
+
+pub commit-spec : {M : Type 1} → statement M
+unfolding firstOf
+commit-spec =
+    tie.close
+    (tie.spec
+    (λ c κs. search needs)
+    (λ c. rw (sym (c .before .is-zero .ensures) ∙ c .if1 .taken))
+    (λ c κs. search needs)
+    (λ c. rw (sym (c .before .before .before .is-zero .ensures) ∙ c .before .before .if1 .left, ← c .before .place-named .ensures, c .if2 .taken))
+    (λ c κs. search needs)
+    (λ c. rw (sym (c .before .before .before .before .before .before .is-zero .ensures) ∙ c .before .before .before .before .before .if1 .left, ← c .before .before .before .before .place-named .ensures, c .before .before .before .if2 .left, ← ap (λ x. x .state) (c .before .before .transaction-at .ensures), c .if3 .taken))
+    (λ c. rw (sym (c .before .before .before .before .before .before .is-zero .ensures) ∙ c .before .before .before .before .before .if1 .left, ← c .before .before .before .before .place-named .ensures, c .before .before .before .if2 .left, ← ap (λ x. x .state) (c .before .before .transaction-at .ensures), c .if3 .left)))

@@ -1,0 +1,4 @@
+pub mod Turns
+pub mod Rowing
+pub mod Laws
+pub mod Fused

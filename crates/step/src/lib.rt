@@ -1,0 +1,87 @@
+// A step: refused, or done.
+
+ghost use mathlib.Core.Path.{_≡_};
+ghost use mathlib.Core.List.{List};
+ghost use Prim.Native.Nat.{ℕ};
+ghost use lib.ListN.{length};
+ghost use Rattle.rules.specs.RefusalNumber.{accepted};
+ghost use Rattle.rules.specs.Table.{freshOf};
+ghost use Rattle.rules.specs.Sound.{soundOf};
+ghost use Rattle.rules.specs.Events.{acceptedOf};
+ghost use Rattle.rules.specs.Refusals.{refusalOf};
+ghost use Rattle.rules.specs.Step.{refusedStep, stepOf, answerOf};
+ghost use Rattle.endings.specs.Gives.{Gives};
+use endings::Accepted;
+use rules::Act;
+use rules::Event;
+use rules::Stepped;
+use rules::Table;
+use rules::refusal;
+
+// A table whose log holds the header alone.
+pub fn fresh(capacity: u32) -> Table
+    ensures { λ r. ⌜ r ≡ freshOf capacity ⌝ }
+{
+    places::fresh(capacity)
+}
+
+pub fn is_sound(table: Table) -> bool
+    ensures { λ r. ⌜ r ≡ soundOf table ⌝ }
+{
+    sound::is_sound(table)
+}
+
+fn accepted(table: Table, event: Event, log: &mut [u8]) -> Accepted
+    requires { ⌜ refusalOf table event (length (now log)) ≡ accepted ⌝ }
+    ensures { λ r. ⌜ Gives (acceptedOf table event (now (log .entry))) r (now (log .exit)) ⌝ }
+{
+    let act = event.act;
+    let t = event.tx;
+    let id = t.0;
+    let m = event.rm;
+    let rm = m.0;
+    let p = places::place_named(table, id);
+    match act {
+        Act::Begin => accepting::begin(table, id),
+        Act::Enlist(n, kind, mark) => accepting::enlist(table, p, n, rm, kind, mark),
+        Act::Commit => deciding::commit(table, p, log),
+        Act::ZeroDone(n) => accepting::reacted(n, act, table, log),
+        Act::Vote(n, _) => accepting::reacted(n, act, table, log),
+        Act::Rollback => endings::abort(table, p, log),
+        Act::Reply(n, _) => accepting::reacted(n, act, table, log),
+        Act::Ack(n) => accepting::reacted(n, act, table, log),
+        Act::Lost(n) => accepting::reacted(n, act, table, log),
+        Act::Ask => accepting::ask(table, p, rm),
+        Act::Reenlisted => reenlisting::reenlisted(table, rm, log),
+    }
+}
+
+fn refused(table: Table, why: u8) -> Stepped
+    ensures { λ r. ⌜ ((log : List ℕ) → r ≡ answerOf (refusedStep why table log)) ⌝ }
+{
+    let signals = signals::to_none();
+    Stepped {
+        refusal: why,
+        table: table,
+        signals: signals,
+    }
+}
+
+pub fn step(table: Table, event: Event, log: &mut [u8]) -> Stepped
+    ensures { λ r. ⌜ (r ≡ answerOf (stepOf table event (now (log .entry)))) × (now (log .exit) ≡ stepOf table event (now (log .entry)) .log) ⌝ }
+{
+    let sound = sound::is_sound(table);
+    let length = log.len();
+    let why = refusals::refusal(table, event, length, sound);
+    if why == refusal::ACCEPTED {
+        let done = accepted(table, event, log);
+        let after = done.table;
+        let signals = done.signals;
+        return Stepped {
+            refusal: refusal::ACCEPTED,
+            table: after,
+            signals: signals,
+        };
+    }
+    refused(table, why)
+}
