@@ -20,3 +20,4 @@ pub mod Used
 pub mod Count
 pub mod Preserved
 pub mod MessageLaws
+pub mod Restarts

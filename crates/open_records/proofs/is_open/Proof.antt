@@ -1,0 +1,28 @@
+-- `open_records::is_open` meets its contract: what is left of the open records says what all say.
+use Prim.Native.Nat.{_-_}
+use mathlib.Core.Path.{refl}
+use borrow.Author.Needs.{needs}
+use Rattle.lists.specs.Lists.{any}
+use Rattle.rules.specs.Restart.{isOpenAs}
+use Rattle.open_records.specs.Opening.{opensOf}
+use Rattle.open_records.proofs.Rows.{Seen, seen-next, seen-here, seen-none, open-next, opens-over}
+use Rattle.open_records.proofs.is_open.Statement.{statement}
+use Rattle.open_records.proofs.is_open.Tie as tie
+
+pub is-open-spec : {M : Type 1} → statement M
+is-open-spec =
+    tie.close
+    (tie.spec
+    (λ log id records n i₀ i. Seen (isOpenAs id) (opensOf log records) (any (isOpenAs id) (opensOf log records)) i)
+    (λ log id records n i₀ i. n - i)
+    (λ c κs. search needs)
+    (λ c. record { same = refl })
+    (λ c. search needs)
+    (λ c. search needs)
+    (λ c κs. search needs)
+    (λ c κs. search needs)
+    (λ c. search needs)
+    (λ c. seen-here (c .before .before .before .before .before .loop .inv) (open-next _ _ (c .before .before .before .before .before .before .count-of .ensures .0) _ (c .before .before .before .before .loop-test .taken)) (rw (c .before .before .identifier-at .ensures) at (c .before .same .ensures)) (c .if1 .taken))
+    (λ c. search needs)
+    (λ c. seen-next (c .before .before .before .before .before .loop .inv) (open-next _ _ (c .before .before .before .before .before .before .count-of .ensures .0) _ (c .before .before .before .before .loop-test .taken)) (rw (c .before .before .identifier-at .ensures) at (c .before .same .ensures)) (c .if1 .left))
+    (λ c. seen-none (c .before .loop .inv) (opens-over _ _ (c .before .before .count-of .ensures .0) _ (c .loop-test .left))))

@@ -1,0 +1,4 @@
+pub mod Judging
+pub mod Building
+pub mod Answers
+pub mod Determined

@@ -1,0 +1,11 @@
+-- `restart::refused` meets its contract: it is made of an empty table.
+use borrow.Author.Needs.{needs}
+use Rattle.restart.proofs.refused.Statement.{statement}
+use Rattle.restart.proofs.refused.Tie as tie
+
+pub refused-spec : {M : Type 1} → statement M
+refused-spec =
+    tie.close
+    (tie.spec
+    (λ c κs. search needs)
+    (λ c. rw (c .empty .ensures)))

@@ -1,0 +1,53 @@
+-- What the parts of a restart give: helpers of the code, of which the rules say the whole.
+use Prim.Native.Nat.{ℕ, _≤_}
+use mathlib.Core.Path.{_≡_}
+use mathlib.Core.Bool.{false}
+use mathlib.Core.List.{List, [], map}
+use lib.ListN.{length, take, drop}
+use lib.Seq.{sets}
+use Rattle.rules.specs.declared.Table.{Table}
+use Rattle.rules.specs.declared.Restarted.{Restarted}
+use Rattle.rules.specs.RefusalNumber as refusal
+use Rattle.rules.specs.Sizes.{transactionPlaces, enlistmentPlaces, headerSize}
+use Rattle.rules.specs.Table.{emptyTransactions, emptyEnlistments, zeroTable, withTransactions, withEnlistments}
+use Rattle.rules.specs.Log.{Entry, scan}
+use Rattle.rules.specs.Restart.{Open, entriesOpen, openAfter, reopened, reenlistment, reenlistments, usedOf, isDamaged}
+use Rattle.open_records.specs.Opening.{opensOf}
+use Rattle.restart.specs.declared.Readings.{Readings}
+
+-- the stored bytes behind the header
+abbrev pub bodyOf : List ℕ → ℕ → List ℕ
+bodyOf log stored = drop headerSize (take stored log)
+
+-- what reading the records of an undamaged log says
+pub record Undamaged (log : List ℕ) (stored : ℕ) (r : Readings) : Type 0 where
+  pub used : r .used ≡ usedOf (bodyOf log stored)
+  pub within : r .used ≤ stored
+  pub opens : opensOf log (r .records) ≡ openAfter [] (scan 0 (bodyOf log stored))
+  pub few : length (opensOf log (r .records)) ≤ transactionPlaces
+  pub few-entries : length (entriesOpen (opensOf log (r .records))) ≤ enlistmentPlaces
+
+pub record Read (log : List ℕ) (stored : ℕ) (r : Readings) : Type 0 where
+  pub damage : r .damaged ≡ isDamaged (bodyOf log stored)
+  pub else : r .damaged ≡ false → Undamaged log stored r
+
+abbrev pub emptyTable : ℕ → ℕ → Table
+emptyTable capacity used = record { transactions = emptyTransactions; enlistments = emptyEnlistments; capacity = capacity; used = used }
+
+abbrev pub refusedAs : ℕ → Restarted
+refusedAs why = record { refusal = why; table = zeroTable }
+
+abbrev pub doneWith : Table → Restarted
+doneWith tb = record { refusal = refusal.accepted; table = tb }
+
+-- the transactions of the open records, in the first places
+unfoldable pub transactionsPut : List Open → Table → Table
+transactionsPut os tb = withTransactions (sets (tb .transactions) 0 (map reopened os)) tb
+
+-- the entries of one of them, that of place p, from index k on
+unfoldable pub entriesPut : ℕ → List Entry → ℕ → Table → Table
+entriesPut p es k tb = withEnlistments (sets (tb .enlistments) k (map (reenlistment p) es)) tb
+
+-- and those of all
+unfoldable pub enlistmentsPut : List Open → Table → Table
+enlistmentsPut os tb = withEnlistments (sets (tb .enlistments) 0 (reenlistments 1 os)) tb

@@ -1,0 +1,118 @@
+// What a restart gave, as a line.
+use libc::STDOUT_FILENO;
+use rules::Enlistment;
+use rules::Table;
+use rules::Transaction;
+
+fn say(words: &[u8]) {
+    io::write_all(STDOUT_FILENO, words);
+}
+
+fn count(before: &[u8], n: u64) {
+    say(before);
+    io::print_decimal(STDOUT_FILENO, n);
+}
+
+fn wide(b: u8) -> u64 {
+    b as u64
+}
+
+fn differs(a: &[u8], b: &[u8], i: usize) -> u64 {
+    if i < a.len() {
+        if i < b.len() {
+            let same = a[i] == b[i];
+            if same { 0 } else { 1 }
+        } else {
+            0
+        }
+    } else {
+        0
+    }
+}
+
+fn sum(a: u64, b: u64) -> u64 {
+    if a < 100000 {
+        if b < 100000 { a + b } else { a }
+    } else {
+        a
+    }
+}
+
+// How many of the first n bytes differ.
+fn changed(a: &[u8], b: &[u8], n: usize) -> u64 {
+    let mut differ: u64 = 0;
+    let mut i: usize = 0;
+    while i < n {
+        let d = differs(a, b, i);
+        let more = sum(differ, d);
+        differ = more;
+        i += 1;
+    }
+    differ
+}
+
+fn enlistment(e: Enlistment) {
+    let rm = e.rm;
+    let id = rm.0;
+    count(b" ", e.number as u64);
+    count(b"/", wide(id[15]));
+    count(b"/", wide(e.kind));
+    count(b"/", wide(e.mark));
+    count(b"/", wide(e.state));
+}
+
+fn held(table: Table, p: u8) {
+    let mut i: usize = 0;
+    while i < 128 {
+        let e = table.enlistments[i];
+        let mine = e.holder == p;
+        i += 1;
+        if mine {
+            enlistment(e);
+        }
+    }
+}
+
+fn row(table: Table, x: Transaction, p: u8) {
+    let live = x.state != 0;
+    let t = x.id;
+    let id = t.0;
+    if live {
+        count(b"; ", wide(id[15]));
+        count(b" in ", wide(x.state));
+        held(table, p);
+    }
+}
+
+fn rows(table: Table) {
+    let mut i: u8 = 0;
+    while i < 32 {
+        let k = i as usize;
+        let x = table.transactions[k];
+        i += 1;
+        row(table, x, i);
+    }
+}
+
+pub fn restarted(which: &[u8], case: u64, log: &mut [u8], capacity: usize, stored: usize) {
+    if log.len() < capacity {
+        return;
+    }
+    if 65537 < log.len() {
+        return;
+    }
+    let mut kept = [0u8; 65537];
+    bytes::copy(log, &mut kept);
+    let r = restart::restart(&mut log[..capacity], stored);
+    let t = r.table;
+    let d = dispenser::dispenser_after(t);
+    let different = changed(&kept, log, capacity);
+    count(which, case);
+    count(b": ", wide(r.refusal));
+    count(b" used ", t.used as u64);
+    count(b" of ", t.capacity as u64);
+    count(b" changed ", different);
+    count(b" next ", d.next as u64);
+    rows(t);
+    say(b"\n");
+}
