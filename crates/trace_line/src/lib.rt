@@ -1,0 +1,466 @@
+// Lines of the trace program: an input line to a command, and a result to its output line.
+
+use rules::sizes;
+use rules::{Act, Command, Event, Kind, Mark, Name, Order, Reply, RmId, Signals, TxId, Vote};
+
+// ---- Words.
+
+// Above every number that a line may name: stands for a word that is none.
+const NO_NUMBER: u64 = 4294967296;
+
+const LARGEST: u64 = 4294967295;
+
+const LARGEST_IDENTIFIER: u64 = 255;
+
+// What a word says where it names an enlistment's number; 0 where it can't be read.
+pub struct Number {
+    pub readable: bool,
+    pub value: u32,
+}
+
+// What a word says where it names a transaction or a resource manager; zeros where it can't be read.
+pub struct Identifier {
+    pub readable: bool,
+    pub bytes: [u8; 16],
+}
+
+// The place of the first space, and the length where there is none.
+fn word_end(s: &[u8]) -> usize {
+    let mut i: usize = 0;
+    while i < s.len() {
+        let space = s[i] == b' ';
+        if space {
+            return i;
+        } else {
+            i += 1;
+        }
+    }
+    i
+}
+
+fn is_word(w: &[u8], text: &[u8]) -> bool {
+    if w.len() != text.len() {
+        return false;
+    }
+    let mut i: usize = 0;
+    while i < w.len() {
+        let equal = w[i] == text[i];
+        if equal {
+            i += 1;
+        } else {
+            return false;
+        }
+    }
+    true
+}
+
+// The value n with one digit more behind it.
+fn extended(n: u64, b: u8) -> u64 {
+    if LARGEST < n {
+        return NO_NUMBER;
+    }
+    if b < b'0' {
+        return NO_NUMBER;
+    }
+    if b'9' < b {
+        return NO_NUMBER;
+    }
+    let next = 10 * n + (b - b'0') as u64;
+    if LARGEST < next {
+        return NO_NUMBER;
+    }
+    next
+}
+
+fn value_of(w: &[u8]) -> u64 {
+    let mut n: u64 = 0;
+    let mut i: usize = 0;
+    while i < w.len() {
+        n = extended(n, w[i]);
+        i += 1;
+    }
+    n
+}
+
+fn numeral(w: &[u8]) -> u64 {
+    if w.len() == 0 {
+        return NO_NUMBER;
+    }
+    if w.len() == 1 {
+        return value_of(w);
+    }
+    let leading = w[0] == b'0';
+    if leading {
+        return NO_NUMBER;
+    }
+    value_of(w)
+}
+
+fn read_number(w: &[u8]) -> Number {
+    let n = numeral(w);
+    if n <= LARGEST {
+        Number {
+            readable: true,
+            value: n as u32,
+        }
+    } else {
+        Number {
+            readable: false,
+            value: 0,
+        }
+    }
+}
+
+fn read_identifier(w: &[u8]) -> Identifier {
+    let mut bytes = [0u8; 16];
+    let n = numeral(w);
+    if n <= LARGEST_IDENTIFIER {
+        bytes[15] = n as u8;
+        Identifier {
+            readable: true,
+            bytes,
+        }
+    } else {
+        Identifier {
+            readable: false,
+            bytes,
+        }
+    }
+}
+
+// ---- A line to a command.
+
+fn ordered(order: Order, act: Act, tx: [u8; 16], rm: [u8; 16]) -> Command {
+    let event = Event {
+        tx: TxId(tx),
+        rm: RmId(rm),
+        act,
+    };
+    Command { order, event }
+}
+
+fn unreadable() -> Command {
+    ordered(Order::Unreadable, Act::Begin, [0u8; 16], [0u8; 16])
+}
+
+fn step_if(readable: bool, act: Act, tx: [u8; 16], rm: [u8; 16]) -> Command {
+    if readable {
+        ordered(Order::Step, act, tx, rm)
+    } else {
+        unreadable()
+    }
+}
+
+fn of_transaction(act: Act, t: &[u8]) -> Command {
+    let tx = read_identifier(t);
+    let bytes = tx.bytes;
+    step_if(tx.readable, act, bytes, [0u8; 16])
+}
+
+fn of_manager(r: &[u8]) -> Command {
+    let rm = read_identifier(r);
+    let bytes = rm.bytes;
+    step_if(rm.readable, Act::Reenlisted, [0u8; 16], bytes)
+}
+
+fn of_number(n: Number, act: Act) -> Command {
+    step_if(n.readable, act, [0u8; 16], [0u8; 16])
+}
+
+fn one_word(w: &[u8]) -> Command {
+    if is_word(w, b"restart") {
+        ordered(Order::Restart, Act::Begin, [0u8; 16], [0u8; 16])
+    } else {
+        unreadable()
+    }
+}
+
+fn two_words(w: &[u8], a: &[u8]) -> Command {
+    if is_word(w, b"begin") {
+        return of_transaction(Act::Begin, a);
+    }
+    if is_word(w, b"commit") {
+        return of_transaction(Act::Commit, a);
+    }
+    if is_word(w, b"rollback") {
+        return of_transaction(Act::Rollback, a);
+    }
+    let n = read_number(a);
+    if is_word(w, b"zdone") {
+        return of_number(n, Act::ZeroDone(n.value));
+    }
+    if is_word(w, b"ack") {
+        return of_number(n, Act::Ack(n.value));
+    }
+    if is_word(w, b"lost") {
+        return of_number(n, Act::Lost(n.value));
+    }
+    if is_word(w, b"reenlisted") {
+        return of_manager(a);
+    }
+    unreadable()
+}
+
+fn vote_line(n: &[u8], v: &[u8]) -> Command {
+    let n = read_number(n);
+    if is_word(v, b"prepared") {
+        return of_number(n, Act::Vote(n.value, Vote::Prepared));
+    }
+    if is_word(v, b"readonly") {
+        return of_number(n, Act::Vote(n.value, Vote::ReadOnly));
+    }
+    if is_word(v, b"aborted") {
+        return of_number(n, Act::Vote(n.value, Vote::Aborted));
+    }
+    unreadable()
+}
+
+fn reply_line(n: &[u8], r: &[u8]) -> Command {
+    let n = read_number(n);
+    if is_word(r, b"committed") {
+        return of_number(n, Act::Reply(n.value, Reply::Committed));
+    }
+    if is_word(r, b"aborted") {
+        return of_number(n, Act::Reply(n.value, Reply::Aborted));
+    }
+    if is_word(r, b"indoubt") {
+        return of_number(n, Act::Reply(n.value, Reply::InDoubt));
+    }
+    unreadable()
+}
+
+fn ask_line(t: &[u8], r: &[u8]) -> Command {
+    let tx = read_identifier(t);
+    let rm = read_identifier(r);
+    if tx.readable {
+        let named = tx.bytes;
+        let asking = rm.bytes;
+        step_if(rm.readable, Act::Ask, named, asking)
+    } else {
+        unreadable()
+    }
+}
+
+fn three_words(w: &[u8], a: &[u8], b: &[u8]) -> Command {
+    if is_word(w, b"vote") {
+        return vote_line(a, b);
+    }
+    if is_word(w, b"sp") {
+        return reply_line(a, b);
+    }
+    if is_word(w, b"ask") {
+        return ask_line(a, b);
+    }
+    unreadable()
+}
+
+fn enlist_as(t: &[u8], n: &[u8], r: &[u8], kind: Kind, mark: Mark) -> Command {
+    let tx = read_identifier(t);
+    let n = read_number(n);
+    let rm = read_identifier(r);
+    if tx.readable {
+        if n.readable {
+            let named = tx.bytes;
+            let enlisting = rm.bytes;
+            return step_if(rm.readable, Act::Enlist(n.value, kind, mark), named, enlisting);
+        }
+    }
+    unreadable()
+}
+
+fn enlist_marked(t: &[u8], n: &[u8], r: &[u8], k: &[u8], mark: Mark) -> Command {
+    if is_word(k, b"zero") {
+        return enlist_as(t, n, r, Kind::PhaseZero, mark);
+    }
+    if is_word(k, b"volatile") {
+        return enlist_as(t, n, r, Kind::Volatile, mark);
+    }
+    if is_word(k, b"durable") {
+        return enlist_as(t, n, r, Kind::Durable, mark);
+    }
+    unreadable()
+}
+
+fn five_words(w: &[u8], t: &[u8], n: &[u8], r: &[u8], k: &[u8]) -> Command {
+    if is_word(w, b"enlist") {
+        enlist_marked(t, n, r, k, Mark::Yes)
+    } else {
+        unreadable()
+    }
+}
+
+fn six_words(w: &[u8], t: &[u8], n: &[u8], r: &[u8], k: &[u8], m: &[u8]) -> Command {
+    if is_word(w, b"enlist") {
+        if is_word(m, b"single") {
+            return enlist_marked(t, n, r, k, Mark::Yes);
+        }
+        if is_word(m, b"twophase") {
+            return enlist_marked(t, n, r, k, Mark::No);
+        }
+    }
+    unreadable()
+}
+
+// ---- The words of a line: those that were read, and what is left of it.
+
+fn after_five<'a>(
+    w: &'a [u8],
+    a: &'a [u8],
+    b: &'a [u8],
+    c: &'a [u8],
+    d: &'a [u8],
+    rest: &'a [u8],
+) -> Command {
+    let e = word_end(rest);
+    if e < rest.len() {
+        unreadable()
+    } else {
+        six_words(w, a, b, c, d, rest)
+    }
+}
+
+fn after_four<'a>(w: &'a [u8], a: &'a [u8], b: &'a [u8], c: &'a [u8], rest: &'a [u8]) -> Command {
+    let e = word_end(rest);
+    if e < rest.len() {
+        after_five(w, a, b, c, &rest[..e], &rest[e + 1..])
+    } else {
+        five_words(w, a, b, c, rest)
+    }
+}
+
+fn after_three<'a>(w: &'a [u8], a: &'a [u8], b: &'a [u8], rest: &'a [u8]) -> Command {
+    let e = word_end(rest);
+    if e < rest.len() {
+        after_four(w, a, b, &rest[..e], &rest[e + 1..])
+    } else {
+        unreadable()
+    }
+}
+
+fn after_two<'a>(w: &'a [u8], a: &'a [u8], rest: &'a [u8]) -> Command {
+    let e = word_end(rest);
+    if e < rest.len() {
+        after_three(w, a, &rest[..e], &rest[e + 1..])
+    } else {
+        three_words(w, a, rest)
+    }
+}
+
+fn after_one<'a>(w: &'a [u8], rest: &'a [u8]) -> Command {
+    let e = word_end(rest);
+    if e < rest.len() {
+        after_two(w, &rest[..e], &rest[e + 1..])
+    } else {
+        two_words(w, rest)
+    }
+}
+
+pub fn read_line(line: &[u8]) -> Command {
+    if sizes::LINE < line.len() {
+        return unreadable();
+    }
+    let e = word_end(line);
+    if e < line.len() {
+        after_one(&line[..e], &line[e + 1..])
+    } else {
+        one_word(line)
+    }
+}
+
+// ---- A result to a line.
+
+// A lent buffer has room for every output line, its newline included.
+pub const OUTPUT: usize = 494;
+
+// A number in decimal: what stands in bytes from `from` on.
+pub struct Decimal {
+    pub bytes: [u8; 10],
+    pub from: usize,
+}
+
+fn decimal_of(n: u32) -> Decimal {
+    let mut bytes = [0u8; 10];
+    let mut k: usize = 10;
+    let mut m = n;
+    while 10 <= m {
+        k -= 1;
+        bytes[k] = b'0' + (m % 10) as u8;
+        m /= 10;
+    }
+    k -= 1;
+    bytes[k] = b'0' + m as u8;
+    Decimal { bytes, from: k }
+}
+
+fn put_text(buffer: &mut [u8; 494], at: usize, text: &[u8]) -> usize {
+    let mut i: usize = 0;
+    while i < text.len() {
+        buffer[at + i] = text[i];
+        i += 1;
+    }
+    at + i
+}
+
+fn put_number(buffer: &mut [u8; 494], at: usize, n: u32) -> usize {
+    let d = decimal_of(n);
+    let bytes = d.bytes;
+    let from = d.from;
+    put_text(buffer, at, &bytes[from..])
+}
+
+fn put_name(buffer: &mut [u8; 494], at: usize, name: Name) -> usize {
+    match name {
+        Name::Nothing => at,
+        Name::Zero => put_text(buffer, at, b"zero"),
+        Name::Prepare => put_text(buffer, at, b"prepare"),
+        Name::Single => put_text(buffer, at, b"single"),
+        Name::Commit => put_text(buffer, at, b"commit"),
+        Name::Abort => put_text(buffer, at, b"abort"),
+        Name::AppCommitted => put_text(buffer, at, b"app-committed"),
+        Name::AppAborted => put_text(buffer, at, b"app-aborted"),
+        Name::AppInDoubt => put_text(buffer, at, b"app-in-doubt"),
+        Name::AnswerCommitted => put_text(buffer, at, b"answer-committed"),
+        Name::AnswerAborted => put_text(buffer, at, b"answer-aborted"),
+        Name::AnswerNotYet => put_text(buffer, at, b"answer-not-yet"),
+    }
+}
+
+fn put_signal(buffer: &mut [u8; 494], at: usize, s: rules::Signal) -> usize {
+    buffer[at] = b' ';
+    let name = s.name;
+    let end = put_name(buffer, at + 1, name);
+    buffer[end] = b':';
+    put_number(buffer, end + 1, s.number)
+}
+
+fn put_signals(buffer: &mut [u8; 494], from: usize, items: [rules::Signal; 17], n: usize) -> usize {
+    let mut at = from;
+    let mut i: usize = 0;
+    while i < n {
+        let s = items[i];
+        at = put_signal(buffer, at, s);
+        i += 1;
+    }
+    at
+}
+
+fn signal_count(signals: Signals) -> u8 {
+    if signals.count <= 17 {
+        signals.count
+    } else {
+        17
+    }
+}
+
+pub fn write_line(refusal: u8, used: u32, signals: Signals, buffer: &mut [u8; 494]) -> usize {
+    let count = signal_count(signals);
+    let why = put_number(buffer, 0, refusal as u32);
+    buffer[why] = b' ';
+    let length = put_number(buffer, why + 1, used);
+    buffer[length] = b' ';
+    let counted = put_number(buffer, length + 1, count as u32);
+    let items = signals.items;
+    let end = put_signals(buffer, counted, items, count as usize);
+    buffer[end] = b'\n';
+    end + 1
+}
