@@ -1,1 +1,3 @@
 pub mod Computing
+pub mod Bytes
+pub mod Identifiers
