@@ -1,5 +1,15 @@
 // Lines of the trace program: an input line to a command, and a result to its output line.
 
+ghost use mathlib.Core.Path.{_≡_};
+ghost use mathlib.Core.List.{[], _∷_};
+ghost use Prim.Native.Nat.{_+_, _*_, _≤_, _<_};
+ghost use lib.ListN.{length, drop, take};
+ghost use Rattle.rules.specs.Identifiers.{sameBytes, zeroId};
+ghost use Rattle.rules.specs.Trace as Trace;
+ghost use Rattle.rules.specs.Trace.{words, wordsRead, readIf, ofTransaction, isIdentifierWord, identifierOf, twoWords, threeWords, voteLine, replyLine, askLine, enlistAs, enlistMarked};
+ghost use Rattle.trace_line.specs.Words.{wordEnd, extendedOf, digitsValue, numeralOf, numberOf, identifierWordOf};
+ghost use Rattle.trace_line.specs.Lines.{Reads};
+
 use rules::sizes;
 use rules::{Act, Command, Event, Kind, Mark, Name, Order, Reply, RmId, Signals, TxId, Vote};
 
@@ -25,7 +35,9 @@ pub struct Identifier {
 }
 
 // The place of the first space, and the length where there is none.
-fn word_end(s: &[u8]) -> usize {
+fn word_end(s: &[u8]) -> usize
+    ensures { λ result. ⌜ result ≡ wordEnd (now (s .entry)) ⌝ }
+{
     let mut i: usize = 0;
     while i < s.len() {
         let space = s[i] == b' ';
@@ -38,7 +50,9 @@ fn word_end(s: &[u8]) -> usize {
     i
 }
 
-fn is_word(w: &[u8], text: &[u8]) -> bool {
+fn is_word(w: &[u8], text: &[u8]) -> bool
+    ensures { λ result. ⌜ result ≡ sameBytes (now (w .entry)) (now (text .entry)) ⌝ }
+{
     if w.len() != text.len() {
         return false;
     }
@@ -55,7 +69,9 @@ fn is_word(w: &[u8], text: &[u8]) -> bool {
 }
 
 // The value n with one digit more behind it.
-fn extended(n: u64, b: u8) -> u64 {
+fn extended(n: u64, b: u8) -> u64
+    ensures { λ result. ⌜ result ≡ extendedOf n b ⌝ }
+{
     if LARGEST < n {
         return NO_NUMBER;
     }
@@ -72,7 +88,9 @@ fn extended(n: u64, b: u8) -> u64 {
     next
 }
 
-fn value_of(w: &[u8]) -> u64 {
+fn value_of(w: &[u8]) -> u64
+    ensures { λ result. ⌜ result ≡ digitsValue (now (w .entry)) ⌝ }
+{
     let mut n: u64 = 0;
     let mut i: usize = 0;
     while i < w.len() {
@@ -82,7 +100,9 @@ fn value_of(w: &[u8]) -> u64 {
     n
 }
 
-fn numeral(w: &[u8]) -> u64 {
+fn numeral(w: &[u8]) -> u64
+    ensures { λ result. ⌜ result ≡ numeralOf (now (w .entry)) ⌝ }
+{
     if w.len() == 0 {
         return NO_NUMBER;
     }
@@ -96,7 +116,9 @@ fn numeral(w: &[u8]) -> u64 {
     value_of(w)
 }
 
-fn read_number(w: &[u8]) -> Number {
+fn read_number(w: &[u8]) -> Number
+    ensures { λ result. ⌜ result ≡ numberOf (now (w .entry)) ⌝ }
+{
     let n = numeral(w);
     if n <= LARGEST {
         Number {
@@ -111,7 +133,9 @@ fn read_number(w: &[u8]) -> Number {
     }
 }
 
-fn read_identifier(w: &[u8]) -> Identifier {
+fn read_identifier(w: &[u8]) -> Identifier
+    ensures { λ result. ⌜ result ≡ identifierWordOf (now (w .entry)) ⌝ }
+{
     let mut bytes = [0u8; 16];
     let n = numeral(w);
     if n <= LARGEST_IDENTIFIER {
@@ -130,7 +154,9 @@ fn read_identifier(w: &[u8]) -> Identifier {
 
 // ---- A line to a command.
 
-fn ordered(order: Order, act: Act, tx: [u8; 16], rm: [u8; 16]) -> Command {
+fn ordered(order: Order, act: Act, tx: [u8; 16], rm: [u8; 16]) -> Command
+    ensures { λ result. ⌜ result ≡ Trace.ordered order act tx rm ⌝ }
+{
     let event = Event {
         tx: TxId(tx),
         rm: RmId(rm),
@@ -139,11 +165,15 @@ fn ordered(order: Order, act: Act, tx: [u8; 16], rm: [u8; 16]) -> Command {
     Command { order, event }
 }
 
-fn unreadable() -> Command {
+fn unreadable() -> Command
+    ensures { λ result. ⌜ result ≡ Trace.unreadable ⌝ }
+{
     ordered(Order::Unreadable, Act::Begin, [0u8; 16], [0u8; 16])
 }
 
-fn step_if(readable: bool, act: Act, tx: [u8; 16], rm: [u8; 16]) -> Command {
+fn step_if(readable: bool, act: Act, tx: [u8; 16], rm: [u8; 16]) -> Command
+    ensures { λ result. ⌜ result ≡ readIf readable (Trace.ordered Order.Step act tx rm) ⌝ }
+{
     if readable {
         ordered(Order::Step, act, tx, rm)
     } else {
@@ -151,23 +181,31 @@ fn step_if(readable: bool, act: Act, tx: [u8; 16], rm: [u8; 16]) -> Command {
     }
 }
 
-fn of_transaction(act: Act, t: &[u8]) -> Command {
+fn of_transaction(act: Act, t: &[u8]) -> Command
+    ensures { λ result. ⌜ result ≡ ofTransaction act (now (t .entry)) ⌝ }
+{
     let tx = read_identifier(t);
     let bytes = tx.bytes;
     step_if(tx.readable, act, bytes, [0u8; 16])
 }
 
-fn of_manager(r: &[u8]) -> Command {
+fn of_manager(r: &[u8]) -> Command
+    ensures { λ result. ⌜ result ≡ readIf (isIdentifierWord (now (r .entry))) (Trace.ordered Order.Step Act.Reenlisted zeroId (identifierOf (now (r .entry)))) ⌝ }
+{
     let rm = read_identifier(r);
     let bytes = rm.bytes;
     step_if(rm.readable, Act::Reenlisted, [0u8; 16], bytes)
 }
 
-fn of_number(n: Number, act: Act) -> Command {
+fn of_number(n: Number, act: Act) -> Command
+    ensures { λ result. ⌜ result ≡ readIf (n .readable) (Trace.ordered Order.Step act zeroId zeroId) ⌝ }
+{
     step_if(n.readable, act, [0u8; 16], [0u8; 16])
 }
 
-fn one_word(w: &[u8]) -> Command {
+fn one_word(w: &[u8]) -> Command
+    ensures { λ result. ⌜ result ≡ wordsRead ((now (w .entry)) ∷ []) ⌝ }
+{
     if is_word(w, b"restart") {
         ordered(Order::Restart, Act::Begin, [0u8; 16], [0u8; 16])
     } else {
@@ -175,7 +213,9 @@ fn one_word(w: &[u8]) -> Command {
     }
 }
 
-fn two_words(w: &[u8], a: &[u8]) -> Command {
+fn two_words(w: &[u8], a: &[u8]) -> Command
+    ensures { λ result. ⌜ result ≡ twoWords (now (w .entry)) (now (a .entry)) ⌝ }
+{
     if is_word(w, b"begin") {
         return of_transaction(Act::Begin, a);
     }
@@ -201,7 +241,9 @@ fn two_words(w: &[u8], a: &[u8]) -> Command {
     unreadable()
 }
 
-fn vote_line(n: &[u8], v: &[u8]) -> Command {
+fn vote_line(n: &[u8], v: &[u8]) -> Command
+    ensures { λ result. ⌜ result ≡ voteLine (now (n .entry)) (now (v .entry)) ⌝ }
+{
     let n = read_number(n);
     if is_word(v, b"prepared") {
         return of_number(n, Act::Vote(n.value, Vote::Prepared));
@@ -215,7 +257,9 @@ fn vote_line(n: &[u8], v: &[u8]) -> Command {
     unreadable()
 }
 
-fn reply_line(n: &[u8], r: &[u8]) -> Command {
+fn reply_line(n: &[u8], r: &[u8]) -> Command
+    ensures { λ result. ⌜ result ≡ replyLine (now (n .entry)) (now (r .entry)) ⌝ }
+{
     let n = read_number(n);
     if is_word(r, b"committed") {
         return of_number(n, Act::Reply(n.value, Reply::Committed));
@@ -229,7 +273,9 @@ fn reply_line(n: &[u8], r: &[u8]) -> Command {
     unreadable()
 }
 
-fn ask_line(t: &[u8], r: &[u8]) -> Command {
+fn ask_line(t: &[u8], r: &[u8]) -> Command
+    ensures { λ result. ⌜ result ≡ askLine (now (t .entry)) (now (r .entry)) ⌝ }
+{
     let tx = read_identifier(t);
     let rm = read_identifier(r);
     if tx.readable {
@@ -241,7 +287,9 @@ fn ask_line(t: &[u8], r: &[u8]) -> Command {
     }
 }
 
-fn three_words(w: &[u8], a: &[u8], b: &[u8]) -> Command {
+fn three_words(w: &[u8], a: &[u8], b: &[u8]) -> Command
+    ensures { λ result. ⌜ result ≡ threeWords (now (w .entry)) (now (a .entry)) (now (b .entry)) ⌝ }
+{
     if is_word(w, b"vote") {
         return vote_line(a, b);
     }
@@ -254,7 +302,9 @@ fn three_words(w: &[u8], a: &[u8], b: &[u8]) -> Command {
     unreadable()
 }
 
-fn enlist_as(t: &[u8], n: &[u8], r: &[u8], kind: Kind, mark: Mark) -> Command {
+fn enlist_as(t: &[u8], n: &[u8], r: &[u8], kind: Kind, mark: Mark) -> Command
+    ensures { λ result. ⌜ result ≡ enlistAs (now (t .entry)) (now (n .entry)) (now (r .entry)) kind mark ⌝ }
+{
     let tx = read_identifier(t);
     let n = read_number(n);
     let rm = read_identifier(r);
@@ -268,7 +318,9 @@ fn enlist_as(t: &[u8], n: &[u8], r: &[u8], kind: Kind, mark: Mark) -> Command {
     unreadable()
 }
 
-fn enlist_marked(t: &[u8], n: &[u8], r: &[u8], k: &[u8], mark: Mark) -> Command {
+fn enlist_marked(t: &[u8], n: &[u8], r: &[u8], k: &[u8], mark: Mark) -> Command
+    ensures { λ result. ⌜ result ≡ enlistMarked (now (t .entry)) (now (n .entry)) (now (r .entry)) (now (k .entry)) mark ⌝ }
+{
     if is_word(k, b"zero") {
         return enlist_as(t, n, r, Kind::PhaseZero, mark);
     }
@@ -281,7 +333,9 @@ fn enlist_marked(t: &[u8], n: &[u8], r: &[u8], k: &[u8], mark: Mark) -> Command 
     unreadable()
 }
 
-fn five_words(w: &[u8], t: &[u8], n: &[u8], r: &[u8], k: &[u8]) -> Command {
+fn five_words(w: &[u8], t: &[u8], n: &[u8], r: &[u8], k: &[u8]) -> Command
+    ensures { λ result. ⌜ result ≡ wordsRead (now (w .entry) ∷ now (t .entry) ∷ now (n .entry) ∷ now (r .entry) ∷ now (k .entry) ∷ []) ⌝ }
+{
     if is_word(w, b"enlist") {
         enlist_marked(t, n, r, k, Mark::Yes)
     } else {
@@ -289,7 +343,9 @@ fn five_words(w: &[u8], t: &[u8], n: &[u8], r: &[u8], k: &[u8]) -> Command {
     }
 }
 
-fn six_words(w: &[u8], t: &[u8], n: &[u8], r: &[u8], k: &[u8], m: &[u8]) -> Command {
+fn six_words(w: &[u8], t: &[u8], n: &[u8], r: &[u8], k: &[u8], m: &[u8]) -> Command
+    ensures { λ result. ⌜ result ≡ wordsRead (now (w .entry) ∷ now (t .entry) ∷ now (n .entry) ∷ now (r .entry) ∷ now (k .entry) ∷ now (m .entry) ∷ []) ⌝ }
+{
     if is_word(w, b"enlist") {
         if is_word(m, b"single") {
             return enlist_marked(t, n, r, k, Mark::Yes);
@@ -310,7 +366,9 @@ fn after_five<'a>(
     c: &'a [u8],
     d: &'a [u8],
     rest: &'a [u8],
-) -> Command {
+) -> Command
+    ensures { λ result. ⌜ result ≡ wordsRead (now (w .entry) ∷ now (a .entry) ∷ now (b .entry) ∷ now (c .entry) ∷ now (d .entry) ∷ words (now (rest .entry))) ⌝ }
+{
     let e = word_end(rest);
     if e < rest.len() {
         unreadable()
@@ -319,7 +377,9 @@ fn after_five<'a>(
     }
 }
 
-fn after_four<'a>(w: &'a [u8], a: &'a [u8], b: &'a [u8], c: &'a [u8], rest: &'a [u8]) -> Command {
+fn after_four<'a>(w: &'a [u8], a: &'a [u8], b: &'a [u8], c: &'a [u8], rest: &'a [u8]) -> Command
+    ensures { λ result. ⌜ result ≡ wordsRead (now (w .entry) ∷ now (a .entry) ∷ now (b .entry) ∷ now (c .entry) ∷ words (now (rest .entry))) ⌝ }
+{
     let e = word_end(rest);
     if e < rest.len() {
         after_five(w, a, b, c, &rest[..e], &rest[e + 1..])
@@ -328,7 +388,9 @@ fn after_four<'a>(w: &'a [u8], a: &'a [u8], b: &'a [u8], c: &'a [u8], rest: &'a 
     }
 }
 
-fn after_three<'a>(w: &'a [u8], a: &'a [u8], b: &'a [u8], rest: &'a [u8]) -> Command {
+fn after_three<'a>(w: &'a [u8], a: &'a [u8], b: &'a [u8], rest: &'a [u8]) -> Command
+    ensures { λ result. ⌜ result ≡ wordsRead (now (w .entry) ∷ now (a .entry) ∷ now (b .entry) ∷ words (now (rest .entry))) ⌝ }
+{
     let e = word_end(rest);
     if e < rest.len() {
         after_four(w, a, b, &rest[..e], &rest[e + 1..])
@@ -337,7 +399,9 @@ fn after_three<'a>(w: &'a [u8], a: &'a [u8], b: &'a [u8], rest: &'a [u8]) -> Com
     }
 }
 
-fn after_two<'a>(w: &'a [u8], a: &'a [u8], rest: &'a [u8]) -> Command {
+fn after_two<'a>(w: &'a [u8], a: &'a [u8], rest: &'a [u8]) -> Command
+    ensures { λ result. ⌜ result ≡ wordsRead (now (w .entry) ∷ now (a .entry) ∷ words (now (rest .entry))) ⌝ }
+{
     let e = word_end(rest);
     if e < rest.len() {
         after_three(w, a, &rest[..e], &rest[e + 1..])
@@ -346,7 +410,9 @@ fn after_two<'a>(w: &'a [u8], a: &'a [u8], rest: &'a [u8]) -> Command {
     }
 }
 
-fn after_one<'a>(w: &'a [u8], rest: &'a [u8]) -> Command {
+fn after_one<'a>(w: &'a [u8], rest: &'a [u8]) -> Command
+    ensures { λ result. ⌜ result ≡ wordsRead (now (w .entry) ∷ words (now (rest .entry))) ⌝ }
+{
     let e = word_end(rest);
     if e < rest.len() {
         after_two(w, &rest[..e], &rest[e + 1..])
@@ -355,7 +421,9 @@ fn after_one<'a>(w: &'a [u8], rest: &'a [u8]) -> Command {
     }
 }
 
-pub fn read_line(line: &[u8]) -> Command {
+pub fn read_line(line: &[u8]) -> Command
+    ensures { λ command. ⌜ Reads (now (line .entry)) command ⌝ }
+{
     if sizes::LINE < line.len() {
         return unreadable();
     }
