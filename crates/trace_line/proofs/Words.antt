@@ -3,17 +3,18 @@ use Prim.Native.Nat.{ℕ, zero, suc, _+_, _-_, _*_, _≤_, _<_}
 use native.Mathlib.Omega.{arith}
 use mathlib.Core.Path.{_≡_, refl, sym, _∙_, ap}
 use mathlib.Core.Bool.{Bool, true, false, cond, not, _&&_, _||_}
-use mathlib.Core.List.{List, [], _∷_}
+use mathlib.Core.List.{List, [], _∷_, _++_}
 use lib.Dec.{eqb, leb}
-use lib.ListN.{length, getD, take, drop}
+use lib.ListN.{length, getD, take, drop, replicate}
 use borrow.Author.Tests.{eq-eqb, ne-eqb, le-leb, lt-leb, leb-true, leb-false}
 use Rattle.lists.specs.Lists.{all}
-use Rattle.lists.proofs.Tests.{by-test, true-and}
+use Rattle.lists.proofs.Tests.{by-test, true-and, or-true}
+use mathlib.Core.Logic.{inr}
 use Rattle.rules.specs.Sizes.{largestNumber}
-use Rattle.rules.specs.Identifiers.{sameBytes}
-use Rattle.rules.specs.Trace.{words, space, digitZero, isDigit, valueFrom, valueOf}
+use Rattle.rules.specs.Identifiers.{sameBytes, zeroId}
+use Rattle.rules.specs.Trace.{words, space, digitZero, isDigit, valueFrom, valueOf, isNumeral, isNumberWord, isIdentifierWord}
 use Rattle.trace_line.proofs.Loops.{drop-at, drop-done}
-use Rattle.trace_line.specs.Words.{wordEnd, noNumber, extendedOf, digitsValue}
+use Rattle.trace_line.specs.Words.{wordEnd, noNumber, extendedOf, digitsValue, numeralOf, numberOf, identifierWordOf}
 
 -- ── the words of a line ─────────────────────────────────────────────────────────────────────────────────────────
 
@@ -101,3 +102,75 @@ module _ {w : List ℕ} where
   pub extended-done : {n i : ℕ} → Extended w n i → length w ≤ i → n ≡ digitsValue w
   unfolding extendedBy digitsValue
   extended-done {n} {i} p h = sym (rw (drop-done w i h) at (p .same)) ∙ by-digits 0 w (omega arith)
+
+-- ── leading zeros ───────────────────────────────────────────────────────────────────────────────────────────────
+
+and-same : (a : Bool) → (a && true) ≡ a
+and-same true = refl
+and-same false = refl
+
+and-never : (a : Bool) → (a && false) ≡ false
+and-never true = refl
+and-never false = refl
+
+module _ (b : ℕ) (bs : List ℕ) where
+  led-well : (eqb (length bs) 0 || not (eqb b digitZero)) ≡ true → digitsValue (b ∷ bs) ≡ numeralOf (b ∷ bs)
+  unfolding digitsValue numeralOf isNumeral
+  led-well e = rw (e, and-same (all isDigit (b ∷ bs)))
+
+  led-by-zero : (eqb (length bs) 0 || not (eqb b digitZero)) ≡ false → noNumber ≡ numeralOf (b ∷ bs)
+  unfolding numeralOf isNumeral
+  led-by-zero e = rw (e, and-never (all isDigit (b ∷ bs)))
+
+pub no-word : (w : List ℕ) → length w ≡ 0 → noNumber ≡ numeralOf w
+unfolding numeralOf isNumeral
+no-word [] h = refl
+no-word (b ∷ bs) h = absurd (omega arith)
+
+pub one-digit : (w : List ℕ) → length w ≡ 1 → digitsValue w ≡ numeralOf w
+one-digit [] h = absurd (omega arith)
+one-digit (b ∷ bs) h = led-well b bs (rw (eq-eqb (length bs) 0 (omega arith)))
+
+pub leading-zero : (w : List ℕ) → (length w ≡ 0 → ⊥) → (length w ≡ 1 → ⊥) → eqb (getD w 0 0) digitZero ≡ true → noNumber ≡ numeralOf w
+leading-zero [] some more z = absurd (some refl)
+leading-zero (b ∷ bs) some more z = led-by-zero b bs (rw (ne-eqb (length bs) 0 (λ e. more (ap suc e)), z))
+
+pub no-leading-zero : (w : List ℕ) → (length w ≡ 0 → ⊥) → eqb (getD w 0 0) digitZero ≡ false → digitsValue w ≡ numeralOf w
+no-leading-zero [] some z = absurd (some refl)
+no-leading-zero (b ∷ bs) some z = led-well b bs (rw z (or-true (eqb (length bs) 0) true (inr refl)))
+
+-- ── a word that names something ─────────────────────────────────────────────────────────────────────────────────
+
+module _ {n : ℕ} (w : List ℕ) (same : n ≡ numeralOf w) where
+  pub number-read : n ≤ largestNumber → record { readable = true; value = n } ≡ numberOf w
+  unfolding numeralOf numberOf
+  number-read h = by-test (isNumberWord w)
+      (λ e. let v : n ≡ valueOf w = rw e at same in rw (e, v))
+      (λ e. let v : n ≡ noNumber = rw e at same in absurd (omega arith))
+
+  pub number-unread : largestNumber < n → record { readable = false; value = 0 } ≡ numberOf w
+  unfolding numeralOf numberOf
+  number-unread h = by-test (isNumberWord w)
+      (λ e.
+        let v : n ≡ valueOf w = rw e at same in
+        let l : valueOf w ≤ largestNumber = leb-true (valueOf w) largestNumber (true-and (isNumeral w) (leb (valueOf w) largestNumber) e .1) in
+        absurd (omega arith))
+      (λ e. rw e)
+
+  pub identifier-read : n ≤ 255 → record { readable = true; bytes = replicate 15 0 ++ (n ∷ []) } ≡ identifierWordOf w
+  unfolding numeralOf identifierWordOf
+  identifier-read h = by-test (isNumberWord w)
+      (λ e.
+        let v : n ≡ valueOf w = rw e at same in
+        rw (true-and (isNumeral w) (leb (valueOf w) largestNumber) e .0, le-leb (valueOf w) 255 (omega arith), v))
+      (λ e. let v : n ≡ noNumber = rw e at same in absurd (omega arith))
+
+  pub identifier-unread : 255 < n → record { readable = false; bytes = zeroId } ≡ identifierWordOf w
+  unfolding numeralOf identifierWordOf
+  identifier-unread h = by-test (isIdentifierWord w)
+      (λ e.
+        let d : isNumeral w ≡ true = true-and (isNumeral w) (leb (valueOf w) 255) e .0 in
+        let l : valueOf w ≤ 255 = leb-true (valueOf w) 255 (true-and (isNumeral w) (leb (valueOf w) 255) e .1) in
+        let v : n ≡ valueOf w = rw (d, le-leb (valueOf w) largestNumber (omega arith)) at same in
+        absurd (omega arith))
+      (λ e. rw e)
