@@ -4,9 +4,10 @@ use native.Mathlib.Omega.{arith}
 use mathlib.Core.Path.{_≡_, refl, sym, _∙_, ap}
 use mathlib.Core.Bool.{Bool, true, false, cond, not, _&&_, _||_}
 use mathlib.Core.List.{List, [], _∷_, _++_}
-use lib.Dec.{eqb, leb}
-use lib.ListN.{length, getD, take, drop, replicate}
-use borrow.Author.Tests.{eq-eqb, ne-eqb, le-leb, lt-leb, leb-true, leb-false}
+use lib.Dec.{eqb, leb, ltb}
+use lib.ListN.{length, getD, take, drop, replicate, length-drop}
+use lib.Seq.{take-all}
+use borrow.Author.Tests.{eq-eqb, ne-eqb, le-leb, lt-leb, leb-true, leb-false, ltb-true, ltb-false}
 use Rattle.lists.specs.Lists.{all}
 use Rattle.lists.proofs.Tests.{by-test, true-and, or-true}
 use mathlib.Core.Logic.{inr}
@@ -40,6 +41,23 @@ words-one [] h = refl
 words-one (b ∷ bs) h = by-test (eqb b space)
     (λ e. let g : suc (length bs) ≤ 0 = rw e at h in absurd (omega arith))
     (λ e. let g : suc (length bs) ≤ suc (wordEnd bs) = rw e at h in rw e (rw (words-one bs (omega arith))))
+
+-- what a command says of the words that were read and of a line's other words
+module _ {A : Type 0} {e : ℕ} {r : A} (g : List (List ℕ) → A) (s : List ℕ) (ends : e ≡ wordEnd s) where
+  pub more-words : e < length s → r ≡ g (take e s ∷ words (take (length s - (e + 1)) (drop (e + 1) s))) → r ≡ g (words s)
+  more-words h q =
+      let k : length (drop (e + 1) s) ≤ length s - (e + 1) = simp length-drop (omega arith) in
+      let f : suc (wordEnd s) ≡ e + 1 = omega arith in
+      q ∙ rw (take-all (length s - (e + 1)) (drop (e + 1) s) k, words-more s (omega arith), f, ← ends)
+
+  pub last-word : length s ≤ e → r ≡ g (s ∷ []) → r ≡ g (words s)
+  last-word h q = q ∙ rw (words-one s (omega arith))
+
+-- there is always a word
+pub some-words : {A : Type 0} {r : A} (g : List (List ℕ) → A) → ((w : List ℕ) (ws : List (List ℕ)) → r ≡ g (w ∷ ws)) → (s : List ℕ) → r ≡ g (words s)
+some-words g h s = by-test (ltb (wordEnd s) (length s))
+    (λ t. rw (words-more s (ltb-true (wordEnd s) (length s) t)) (h (take (wordEnd s) s) (words (drop (suc (wordEnd s)) s))))
+    (λ t. rw (words-one s (ltb-false (wordEnd s) (length s) t)) (h s []))
 
 -- words of another length differ
 pub other-length : (a b : List ℕ) → (length a ≡ length b → ⊥) → sameBytes a b ≡ false

@@ -6,7 +6,8 @@ ghost use Prim.Native.Nat.{_+_, _*_, _≤_, _<_};
 ghost use lib.ListN.{length, drop, take};
 ghost use Rattle.rules.specs.Identifiers.{sameBytes, zeroId};
 ghost use Rattle.rules.specs.Trace as Trace;
-ghost use Rattle.rules.specs.Trace.{words, wordsRead, readIf, ofTransaction, isIdentifierWord, identifierOf, twoWords, threeWords, voteLine, replyLine, askLine, enlistAs, enlistMarked};
+ghost use Rattle.rules.specs.Trace.{words, wordsRead, readIf, ofTransaction, isIdentifierWord, identifierOf, twoWords, threeWords, voteLine, replyLine, askLine, enlistAs, enlistMarked, enlistLineMarked};
+ghost use mathlib.Core.Bool.{_&&_};
 ghost use Rattle.trace_line.specs.Words.{wordEnd, extendedOf, digitsValue, numeralOf, numberOf, identifierWordOf};
 ghost use Rattle.trace_line.specs.Lines.{Reads};
 
@@ -171,6 +172,13 @@ fn unreadable() -> Command
     ordered(Order::Unreadable, Act::Begin, [0u8; 16], [0u8; 16])
 }
 
+// Both are computed before the test, so that no branch stands in front of a call.
+fn and(a: bool, b: bool) -> bool
+    ensures { λ result. ⌜ result ≡ (a && b) ⌝ }
+{
+    if a { b } else { false }
+}
+
 fn step_if(readable: bool, act: Act, tx: [u8; 16], rm: [u8; 16]) -> Command
     ensures { λ result. ⌜ result ≡ readIf readable (Trace.ordered Order.Step act tx rm) ⌝ }
 {
@@ -278,13 +286,9 @@ fn ask_line(t: &[u8], r: &[u8]) -> Command
 {
     let tx = read_identifier(t);
     let rm = read_identifier(r);
-    if tx.readable {
-        let named = tx.bytes;
-        let asking = rm.bytes;
-        step_if(rm.readable, Act::Ask, named, asking)
-    } else {
-        unreadable()
-    }
+    let named = tx.bytes;
+    let asking = rm.bytes;
+    step_if(and(tx.readable, rm.readable), Act::Ask, named, asking)
 }
 
 fn three_words(w: &[u8], a: &[u8], b: &[u8]) -> Command
@@ -306,16 +310,12 @@ fn enlist_as(t: &[u8], n: &[u8], r: &[u8], kind: Kind, mark: Mark) -> Command
     ensures { λ result. ⌜ result ≡ enlistAs (now (t .entry)) (now (n .entry)) (now (r .entry)) kind mark ⌝ }
 {
     let tx = read_identifier(t);
-    let n = read_number(n);
+    let number = read_number(n);
     let rm = read_identifier(r);
-    if tx.readable {
-        if n.readable {
-            let named = tx.bytes;
-            let enlisting = rm.bytes;
-            return step_if(rm.readable, Act::Enlist(n.value, kind, mark), named, enlisting);
-        }
-    }
-    unreadable()
+    let readable = and(and(tx.readable, number.readable), rm.readable);
+    let named = tx.bytes;
+    let enlisting = rm.bytes;
+    step_if(readable, Act::Enlist(number.value, kind, mark), named, enlisting)
 }
 
 fn enlist_marked(t: &[u8], n: &[u8], r: &[u8], k: &[u8], mark: Mark) -> Command
@@ -343,18 +343,26 @@ fn five_words(w: &[u8], t: &[u8], n: &[u8], r: &[u8], k: &[u8]) -> Command
     }
 }
 
+fn enlist_line_marked(t: &[u8], n: &[u8], r: &[u8], k: &[u8], m: &[u8]) -> Command
+    ensures { λ result. ⌜ result ≡ enlistLineMarked (now (t .entry)) (now (n .entry)) (now (r .entry)) (now (k .entry)) (now (m .entry)) ⌝ }
+{
+    if is_word(m, b"single") {
+        return enlist_marked(t, n, r, k, Mark::Yes);
+    }
+    if is_word(m, b"twophase") {
+        return enlist_marked(t, n, r, k, Mark::No);
+    }
+    unreadable()
+}
+
 fn six_words(w: &[u8], t: &[u8], n: &[u8], r: &[u8], k: &[u8], m: &[u8]) -> Command
     ensures { λ result. ⌜ result ≡ wordsRead (now (w .entry) ∷ now (t .entry) ∷ now (n .entry) ∷ now (r .entry) ∷ now (k .entry) ∷ now (m .entry) ∷ []) ⌝ }
 {
     if is_word(w, b"enlist") {
-        if is_word(m, b"single") {
-            return enlist_marked(t, n, r, k, Mark::Yes);
-        }
-        if is_word(m, b"twophase") {
-            return enlist_marked(t, n, r, k, Mark::No);
-        }
+        enlist_line_marked(t, n, r, k, m)
+    } else {
+        unreadable()
     }
-    unreadable()
 }
 
 // ---- The words of a line: those that were read, and what is left of it.

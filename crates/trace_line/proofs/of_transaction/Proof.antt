@@ -1,0 +1,12 @@
+use borrow.Author.Needs.{needs}
+use Rattle.trace_line.proofs.Commands.{transaction-read}
+use Rattle.trace_line.proofs.of_transaction.Statement.{statement}
+use Rattle.trace_line.proofs.of_transaction.Tie as tie
+
+pub of-transaction-spec : {M : Type 1} → statement M
+of-transaction-spec =
+    tie.close
+    (tie.spec
+    (λ c κs. search needs)
+    (λ c κs. search needs)
+    (λ c. transaction-read _ _ (c .before .before .read-identifier .ensures) (c .step-if .ensures)))
