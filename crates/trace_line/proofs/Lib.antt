@@ -1,3 +1,5 @@
 pub mod Loops
 pub mod Words
 pub mod Commands
+pub mod Digits
+pub mod Puts

@@ -1,10 +1,35 @@
--- The contracts of the two public functions.
-use Prim.Native.Nat.{ℕ}
+-- The contracts of the two public functions, and what of them the definitions of rules leave open.
+use Prim.Native.Nat.{ℕ, _≤_}
 use mathlib.Core.Path.{_≡_}
-use mathlib.Core.List.{List}
+use mathlib.Core.List.{List, [], _∷_, _++_}
+use lib.ListN.{length, take, drop}
 use Rattle.rules.specs.declared.Command.{Command}
-use Rattle.rules.specs.Trace.{commandOf}
+use Rattle.rules.specs.declared.Signal.{Signal}
+use Rattle.rules.specs.declared.Signals.{Signals}
+use Rattle.rules.specs.Trace.{commandOf, outputOf}
 
 -- a line, without its newline, is read as this command
 abbrev pub Reads : List ℕ → Command → Type 0
 Reads line command = command ≡ commandOf line
+
+-- the first count of the items are the signals; a count above the number of items takes all of them
+abbrev pub signalsOf : Signals → List Signal
+signalsOf signals = take (signals .count) (signals .items)
+
+abbrev pub newline : ℕ
+newline = 0x0A
+
+-- an output line is written with its newline, so that the program has nothing to add
+unfoldable pub outputLine : ℕ → ℕ → Signals → List ℕ
+outputLine why used signals = outputOf why used (signalsOf signals) ++ (newline ∷ [])
+
+-- no output line is longer: 255, 4294967295, 17 and 17 times answer-committed:4294967295
+abbrev pub outputMost : ℕ
+outputMost = 494
+
+-- the line stands at the start of the lent buffer, and nothing beyond it is changed
+pub record Writes (why used : ℕ) (signals : Signals) (before : List ℕ) (size : ℕ) (after : List ℕ) : Type 0 where
+  pub sized : size ≡ length (outputLine why used signals)
+  pub bytes : after ≡ outputLine why used signals ++ drop (length (outputLine why used signals)) before
+  -- follows from the first, and lets a caller take these bytes of the buffer
+  pub within : size ≤ outputMost

@@ -2,17 +2,18 @@
 
 ghost use mathlib.Core.Path.{_≡_};
 ghost use mathlib.Core.List.{[], _∷_};
-ghost use Prim.Native.Nat.{_+_, _*_, _≤_, _<_};
-ghost use lib.ListN.{length, drop, take};
+ghost use Prim.Native.Nat.{_+_, _*_, _≤_, min};
+ghost use lib.ListN.{length, take};
 ghost use Rattle.rules.specs.Identifiers.{sameBytes, zeroId};
 ghost use Rattle.rules.specs.Trace as Trace;
-ghost use Rattle.rules.specs.Trace.{words, wordsRead, readIf, ofTransaction, isIdentifierWord, identifierOf, twoWords, threeWords, voteLine, replyLine, askLine, enlistAs, enlistMarked, enlistLineMarked};
+ghost use Rattle.rules.specs.Trace.{words, wordsRead, readIf, ofTransaction, isIdentifierWord, identifierOf, twoWords, threeWords, voteLine, replyLine, askLine, enlistAs, enlistMarked, enlistLineMarked, decimal, nameText, signalTexts};
 ghost use mathlib.Core.Bool.{_&&_};
 ghost use Rattle.trace_line.specs.Words.{wordEnd, extendedOf, digitsValue, numeralOf, numberOf, identifierWordOf};
-ghost use Rattle.trace_line.specs.Lines.{Reads};
+ghost use Rattle.trace_line.specs.Puts.{Puts, Converts, signalText};
+ghost use Rattle.trace_line.specs.Lines.{Reads, Writes, outputMost};
 
 use rules::sizes;
-use rules::{Act, Command, Event, Kind, Mark, Name, Order, Reply, RmId, Signals, TxId, Vote};
+use rules::{Act, Command, Event, Kind, Mark, Name, Order, Reply, RmId, Signal, Signals, TxId, Vote};
 
 // ---- Words.
 
@@ -445,7 +446,7 @@ pub fn read_line(line: &[u8]) -> Command
 
 // ---- A result to a line.
 
-// A lent buffer has room for every output line, its newline included.
+// The length of the longest output line, its newline included.
 pub const OUTPUT: usize = 494;
 
 // A number in decimal: what stands in bytes from `from` on.
@@ -454,7 +455,9 @@ pub struct Decimal {
     pub from: usize,
 }
 
-fn decimal_of(n: u32) -> Decimal {
+fn decimal_of(n: u32) -> Decimal
+    ensures { λ result. ⌜ Converts n result ⌝ }
+{
     let mut bytes = [0u8; 10];
     let mut k: usize = 10;
     let mut m = n;
@@ -468,7 +471,10 @@ fn decimal_of(n: u32) -> Decimal {
     Decimal { bytes, from: k }
 }
 
-fn put_text(buffer: &mut [u8; 494], at: usize, text: &[u8]) -> usize {
+fn put_text(buffer: &mut [u8; OUTPUT], at: usize, text: &[u8]) -> usize
+    requires { ⌜ at + length (now text) ≤ outputMost ⌝ }
+    ensures { λ end. ⌜ Puts (now (text .entry)) (now (buffer .entry)) at end (now (buffer .exit)) ⌝ }
+{
     let mut i: usize = 0;
     while i < text.len() {
         buffer[at + i] = text[i];
@@ -477,16 +483,22 @@ fn put_text(buffer: &mut [u8; 494], at: usize, text: &[u8]) -> usize {
     at + i
 }
 
-fn put_number(buffer: &mut [u8; 494], at: usize, n: u32) -> usize {
+fn put_number(buffer: &mut [u8; OUTPUT], at: usize, n: u32) -> usize
+    requires { ⌜ at + 10 ≤ outputMost ⌝ }
+    ensures { λ end. ⌜ Puts (decimal n) (now (buffer .entry)) at end (now (buffer .exit)) ⌝ }
+{
     let d = decimal_of(n);
     let bytes = d.bytes;
     let from = d.from;
     put_text(buffer, at, &bytes[from..])
 }
 
-fn put_name(buffer: &mut [u8; 494], at: usize, name: Name) -> usize {
+fn put_name(buffer: &mut [u8; OUTPUT], at: usize, name: Name) -> usize
+    requires { ⌜ at + 16 ≤ outputMost ⌝ }
+    ensures { λ end. ⌜ Puts (nameText name) (now (buffer .entry)) at end (now (buffer .exit)) ⌝ }
+{
     match name {
-        Name::Nothing => at,
+        Name::Nothing => put_text(buffer, at, b""),
         Name::Zero => put_text(buffer, at, b"zero"),
         Name::Prepare => put_text(buffer, at, b"prepare"),
         Name::Single => put_text(buffer, at, b"single"),
@@ -501,42 +513,50 @@ fn put_name(buffer: &mut [u8; 494], at: usize, name: Name) -> usize {
     }
 }
 
-fn put_signal(buffer: &mut [u8; 494], at: usize, s: rules::Signal) -> usize {
+// At most 28 bytes.
+fn put_signal(buffer: &mut [u8; OUTPUT], at: usize, signal: Signal) -> usize
+    requires { ⌜ at + 28 ≤ outputMost ⌝ }
+    ensures { λ end. ⌜ Puts (signalText signal) (now (buffer .entry)) at end (now (buffer .exit)) ⌝ }
+{
     buffer[at] = b' ';
-    let name = s.name;
-    let end = put_name(buffer, at + 1, name);
-    buffer[end] = b':';
-    put_number(buffer, end + 1, s.number)
+    let name = signal.name;
+    let named = put_name(buffer, at + 1, name);
+    buffer[named] = b':';
+    put_number(buffer, named + 1, signal.number)
 }
 
-fn put_signals(buffer: &mut [u8; 494], from: usize, items: [rules::Signal; 17], n: usize) -> usize {
+fn put_signals(buffer: &mut [u8; OUTPUT], from: usize, items: [Signal; 17], n: usize) -> usize
+    requires { ⌜ (n ≤ 17) × (from + 28 * n ≤ outputMost) ⌝ }
+    ensures { λ end. ⌜ Puts (signalTexts (take n items)) (now (buffer .entry)) from end (now (buffer .exit)) ⌝ }
+{
     let mut at = from;
     let mut i: usize = 0;
     while i < n {
-        let s = items[i];
-        at = put_signal(buffer, at, s);
+        let signal = items[i];
+        at = put_signal(buffer, at, signal);
         i += 1;
     }
     at
 }
 
-fn signal_count(signals: Signals) -> u8 {
-    if signals.count <= 17 {
-        signals.count
-    } else {
-        17
-    }
+// How many of the items are signals.
+fn signal_count(count: u8) -> u8
+    ensures { λ result. ⌜ result ≡ min count 17 ⌝ }
+{
+    if count <= 17 { count } else { 17 }
 }
 
-pub fn write_line(refusal: u8, used: u32, signals: Signals, buffer: &mut [u8; 494]) -> usize {
-    let count = signal_count(signals);
-    let why = put_number(buffer, 0, refusal as u32);
-    buffer[why] = b' ';
-    let length = put_number(buffer, why + 1, used);
-    buffer[length] = b' ';
-    let counted = put_number(buffer, length + 1, count as u32);
+pub fn write_line(refusal: u8, used: u32, signals: Signals, buffer: &mut [u8; OUTPUT]) -> usize
+    ensures { λ size. ⌜ Writes refusal used signals (now (buffer .entry)) size (now (buffer .exit)) ⌝ }
+{
+    let count = signal_count(signals.count);
     let items = signals.items;
-    let end = put_signals(buffer, counted, items, count as usize);
+    let first = put_number(buffer, 0, refusal as u32);
+    buffer[first] = b' ';
+    let second = put_number(buffer, first + 1, used);
+    buffer[second] = b' ';
+    let third = put_number(buffer, second + 1, count as u32);
+    let end = put_signals(buffer, third, items, count as usize);
     buffer[end] = b'\n';
     end + 1
 }
