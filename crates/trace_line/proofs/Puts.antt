@@ -2,10 +2,18 @@
 use Prim.Native.Nat.{ℕ, zero, suc, _+_, _-_, _*_, _≤_, _<_}
 use native.Mathlib.Omega.{arith}
 use mathlib.Core.Path.{_≡_, refl, sym, _∙_}
-use mathlib.Core.List.{List, [], _∷_, _++_, append-assoc}
-use lib.ListN.{length, getD, set, take, drop, length-append}
-use lib.Seq.{sets, sets-eq, length-sets}
-use Rattle.trace_line.specs.Puts.{Puts}
+use mathlib.Core.List.{List, [], _∷_, _++_, map, append-assoc, append-nil}
+use native.Mathlib.Numerals.{add-one}
+use lib.Dec.{lit≤}
+use lib.ListN.{length, getD, set, take, drop, length-append, length-drop, length-map}
+use lib.Seq.{sets, sets-eq, length-sets, take-all, take-suc}
+use Rattle.trace_line.specs.Puts.{Puts, Converts, signalText}
+use Rattle.rules.specs.declared.Name.{Name}
+use Rattle.rules.specs.declared.Name.the-variants as name
+use Rattle.rules.specs.declared.Signal.{Signal}
+use Rattle.rules.specs.Trace.{text, nameText, decimal, signalTexts}
+use Rattle.trace_line.specs.declared.Decimal.{Decimal}
+use Rattle.trace_line.proofs.Digits.{ten-digits}
 use Rattle.trace_line.proofs.Loops.{drop-at, drop-done}
 
 sets-append : {A : Type 0} (l : List A) (at : ℕ) (xs ys : List A) → sets l at (xs ++ ys) ≡ sets (sets l at xs) (at + length xs) ys
@@ -40,3 +48,61 @@ module _ {text before : List ℕ} {at : ℕ} where
 
   pub putting-done : {buffer : List ℕ} {i : ℕ} → Putting text before at buffer i → length text ≤ i → Puts text before at (at + i) buffer
   putting-done {buffer} {i} p h = record { ends = omega arith; same = rw (drop-done text i h) at (p .same) }
+
+-- ── a number, a name, a signal ──────────────────────────────────────────────────────────────────────────────────
+
+pub put-decimal : {n : ℕ} {d : Decimal} {before after : List ℕ} {at end : ℕ} → Converts n d
+    → Puts (take (10 - d .from) (drop (d .from) (d .bytes))) before at end after → Puts (decimal n) before at end after
+put-decimal {n} {d} p q =
+    rw (take-all (10 - d .from) (drop (d .from) (d .bytes)) (simp length-drop (omega arith)), p .same) at q
+
+pub name-most : (a : Name) → length (nameText a) ≤ 16
+unfolding nameText text
+name-most name.Nothing = lit≤ tt
+name-most name.Zero = lit≤ tt
+name-most name.Prepare = lit≤ tt
+name-most name.Single = lit≤ tt
+name-most name.Commit = lit≤ tt
+name-most name.Abort = lit≤ tt
+name-most name.AppCommitted = lit≤ tt
+name-most name.AppAborted = lit≤ tt
+name-most name.AppInDoubt = lit≤ tt
+name-most name.AnswerCommitted = lit≤ tt
+name-most name.AnswerAborted = lit≤ tt
+name-most name.AnswerNotYet = lit≤ tt
+
+pub signal-most : (s : Signal) → length (signalText s) ≤ 28
+unfolding signalText
+signal-most s = simp length-append (omega (arith, name-most (s .name), ten-digits 10 (s .number)))
+
+-- an array's own length, from what owning it tells (`search long`)
+pub long : {X Y : Type 0} (g : X → Y) (l : List X) (n : ℕ) → length (map g l) ≡ n → length l ≡ n
+long g l n e = rw length-map at e
+
+-- ── signals ─────────────────────────────────────────────────────────────────────────────────────────────────────
+
+one-more : (ss : List Signal) (s : Signal) → signalTexts (ss ++ (s ∷ [])) ≡ signalTexts ss ++ signalText s
+unfolding signalTexts signalText
+one-more [] s = append-nil _
+one-more (x ∷ ss) s = rw (one-more ss s, append-assoc)
+
+-- a loop that writes the first n items, each in at most 28 bytes, and has written i of them
+pub record Sending (n : ℕ) (items : List Signal) (before : List ℕ) (from : ℕ) (buffer : List ℕ) (at i : ℕ) : Type 0 where
+  pub within : i ≤ n
+  pub long : length items ≡ 17
+  pub few : at ≤ from + 28 * i
+  pub puts : Puts (signalTexts (take i items)) before from at buffer
+
+module _ {n : ℕ} {items : List Signal} {before : List ℕ} {from : ℕ} where
+  pub sending-start : length items ≡ 17 → Sending n items before from before from 0
+  unfolding signalTexts
+  sending-start h = record { within = omega arith; long = h; few = omega arith; puts = record { ends = omega arith; same = refl } }
+
+  pub sending-again : {buffer buffer′ : List ℕ} {at at′ i : ℕ} (d : Signal) → Sending n items before from buffer at i → i < n → n ≤ 17
+      → Puts (signalText (getD items i d)) buffer at at′ buffer′ → Sending n items before from buffer′ at′ (i + 1)
+  sending-again {i = i} d p h l q =
+      record { within = omega arith; long = p .long; few = omega (arith, signal-most (getD items i d));
+               puts = rw (add-one, take-suc items i d (omega arith), one-more) (put-both (p .puts) q) }
+
+  pub sending-done : {buffer : List ℕ} {at i : ℕ} → Sending n items before from buffer at i → n ≤ i → Puts (signalTexts (take n items)) before from at buffer
+  sending-done {i = i} p h = let e : i ≡ n = omega arith in rw e at (p .puts)
