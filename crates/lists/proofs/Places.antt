@@ -42,8 +42,8 @@ module _ {A : Type 0} (d : A) where
   pub place-or-nothing : (p : ℕ) (xs : List A) → IsPlace xs p ⊎ (at d p xs ≡ d)
   place-or-nothing p xs = by-test (ltb 0 p)
       (λ e. by-test (leb p (length xs))
-          (λ g. inl (record { low = ltb-true 0 p e; high = leb-true p (length xs) g }))
-          (λ g. let h : length xs < p = leb-false p (length xs) g in inr (at-beyond 1 p xs (omega arith))))
+      (λ g. inl (record { low = ltb-true 0 p e; high = leb-true p (length xs) g }))
+      (λ g. let h : length xs < p = leb-false p (length xs) g in inr (at-beyond 1 p xs (omega arith))))
       (λ e. let h : p ≤ 0 = ltb-false 0 p e in inr (at-below 1 p xs (omega arith)))
 
   pub at-suc : (i : ℕ) (xs : List A) → at d (suc i) xs ≡ getD xs i d

@@ -66,5 +66,5 @@ pub enlist-read : {i j : Identifier} {k : Number} {b b′ : Bool} {c : Command} 
 unfolding identifierWordOf numberOf
 enlist-read t n r kind mark e f g h h′ q =
     q ∙ rw (h′, h, e, f, g)
-        (once-all (isIdentifierWord t) (isNumberWord n) (isIdentifierWord r) (identifierOf t) zeroId (valueOf n) 0 (identifierOf r) zeroId
-        (λ x y z. ordered order.Step (act.Enlist y kind mark) x z) _)
+    (once-all (isIdentifierWord t) (isNumberWord n) (isIdentifierWord r) (identifierOf t) zeroId (valueOf n) 0 (identifierOf r) zeroId
+    (λ x y z. ordered order.Step (act.Enlist y kind mark) x z) _)

@@ -23,8 +23,8 @@ few-digits (suc k) zero n h = rw (lt-ltb n 10 h) (omega arith)
 few-digits (suc k) (suc j) n h = by-test (ltb n 10)
     (λ t. rw t (omega arith))
     (λ t.
-      let l : length (digits k (n / 10)) ≤ suc j = few-digits k j (n / 10) (omega (arith, pow-succ' 10 (suc j))) in
-      rw t (simp length-append (omega arith)))
+    let l : length (digits k (n / 10)) ≤ suc j = few-digits k j (n / 10) (omega (arith, pow-succ' 10 (suc j))) in
+    rw t (simp length-append (omega arith)))
 
 pub ten-digits : (k n : ℕ) → length (digits k n) ≤ k
 unfolding digits
@@ -51,8 +51,13 @@ drop-set l k b h =
 module _ {n : ℕ} {bytes : List ℕ} where
   pub convert-start : n < 2 ^ 32 → length bytes ≡ 10 → Converting n bytes 10 n
   convert-start h e =
-      record { some = omega arith; within = omega arith; long = e; small = omega arith;
-               same = rw (drop-of-length-le bytes {i = 10} (omega arith), append-nil) }
+      record {
+        some = omega arith;
+        within = omega arith;
+        long = e;
+        small = omega arith;
+        same = rw (drop-of-length-le bytes {i = 10} (omega arith), append-nil);
+      }
 
   pub convert-again : (k : ℕ) {m : ℕ} → Converting n bytes k m → 10 ≤ m → Converting n (set bytes (k - 1) (digitZero + m % 10)) (k - 1) (m / 10)
   unfolding digits
@@ -61,9 +66,14 @@ module _ {n : ℕ} {bytes : List ℕ} where
   convert-again (suc (suc j)) {m} p h =
       let e : suc (suc j) - 1 ≡ suc j = omega arith in
       rw e
-      (record { some = omega arith; within = omega arith; long = simp length-set (p .long); small = omega (arith, pow-succ' 10 (suc j));
-                same = rw (drop-set bytes (suc j) (digitZero + m % 10) (omega arith))
-                       (rw (le-ltb m 10 h, append-assoc) at (p .same)) })
+      (record {
+        some = omega arith;
+        within = omega arith;
+        long = simp length-set (p .long);
+        small = omega (arith, pow-succ' 10 (suc j));
+        same = rw (drop-set bytes (suc j) (digitZero + m % 10) (omega arith))
+            (rw (le-ltb m 10 h, append-assoc) at (p .same));
+      })
 
   pub convert-done : (k : ℕ) {m : ℕ} → Converting n bytes k m → m < 10
       → Converts n (record { bytes = set bytes (k - 1) (digitZero + m); from = k - 1 })
@@ -72,5 +82,8 @@ module _ {n : ℕ} {bytes : List ℕ} where
   convert-done (suc j) {m} p h =
       let e : suc j - 1 ≡ j = omega arith in
       rw e
-      (record { long = simp length-set (p .long); within = omega arith;
-                same = drop-set bytes j (digitZero + m) (omega arith) ∙ sym (rw (lt-ltb m 10 h) at (p .same)) })
+      (record {
+        long = simp length-set (p .long);
+        within = omega arith;
+        same = drop-set bytes j (digitZero + m) (omega arith) ∙ sym (rw (lt-ltb m 10 h) at (p .same));
+      })

@@ -3,3 +3,4 @@ pub mod Words
 pub mod Commands
 pub mod Digits
 pub mod Puts
+pub mod Lines

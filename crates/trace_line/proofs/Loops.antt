@@ -47,8 +47,12 @@ module _ {A B : Type 0} {g : List A → List A → B} {n : ℕ} {a b : List A} w
   pub pair-next : {i : ℕ} (d : A) → Paired g n a b i → i < n
       → ((xs ys : List A) → g (getD a i d ∷ xs) (getD b i d ∷ ys) ≡ g xs ys) → Paired g n a b (i + 1)
   pair-next {i} d p h e =
-      record { within = omega arith; long-a = p .long-a; long-b = p .long-b;
-               same = (rw (drop-at a i d (omega arith), drop-at b i d (omega arith)) at (p .same)) ∙ e (drop (i + 1) a) (drop (i + 1) b) }
+      record {
+        within = omega arith;
+        long-a = p .long-a;
+        long-b = p .long-b;
+        same = (rw (drop-at a i d (omega arith), drop-at b i d (omega arith)) at (p .same)) ∙ e (drop (i + 1) a) (drop (i + 1) b);
+      }
 
   pub pair-stop : {i : ℕ} {r : B} (d : A) → Paired g n a b i → i < n
       → ((xs ys : List A) → g (getD a i d ∷ xs) (getD b i d ∷ ys) ≡ r) → r ≡ g a b

@@ -24,8 +24,10 @@ sets-append l at (x ∷ xs) ys =
 pub put-both : {xs ys before middle after : List ℕ} {at between end : ℕ} → Puts xs before at between middle → Puts ys middle between end after
     → Puts (xs ++ ys) before at end after
 put-both {xs} {ys} {before} {middle} {after} {at} {between} {end} p q =
-    record { ends = simp length-append (omega arith);
-             same = q .same ∙ rw (p .same, p .ends, ← sets-append) }
+    record {
+      ends = simp length-append (omega arith);
+      same = q .same ∙ rw (p .same, p .ends, ← sets-append);
+    }
 
 -- one byte, stored where the bytes before it end
 pub put-byte : {before : List ℕ} {at : ℕ} (b : ℕ) → Puts (b ∷ []) before at (at + 1) (set before at b)
@@ -101,8 +103,12 @@ module _ {n : ℕ} {items : List Signal} {before : List ℕ} {from : ℕ} where
   pub sending-again : {buffer buffer′ : List ℕ} {at at′ i : ℕ} (d : Signal) → Sending n items before from buffer at i → i < n → n ≤ 17
       → Puts (signalText (getD items i d)) buffer at at′ buffer′ → Sending n items before from buffer′ at′ (i + 1)
   sending-again {i = i} d p h l q =
-      record { within = omega arith; long = p .long; few = omega (arith, signal-most (getD items i d));
-               puts = rw (add-one, take-suc items i d (omega arith), one-more) (put-both (p .puts) q) }
+      record {
+        within = omega arith;
+        long = p .long;
+        few = omega (arith, signal-most (getD items i d));
+        puts = rw (add-one, take-suc items i d (omega arith), one-more) (put-both (p .puts) q);
+      }
 
   pub sending-done : {buffer : List ℕ} {at i : ℕ} → Sending n items before from buffer at i → n ≤ i → Puts (signalTexts (take n items)) before from at buffer
   sending-done {i = i} p h = let e : i ≡ n = omega arith in rw e at (p .puts)

@@ -97,11 +97,11 @@ unfolding extendedBy extendedOf all valueFrom
 by-digits n [] h = rw (le-leb n largestNumber h)
 by-digits n (b ∷ bs) h = by-test (isDigit b)
     (λ d. by-test (leb (10 * n + (b - digitZero)) largestNumber)
-        (λ l. rw (le-leb n largestNumber h, d, l) (by-digits (10 * n + (b - digitZero)) bs (leb-true _ _ l)))
-        (λ l.
-          let v = valueFrom (10 * n + (b - digitZero)) bs in
-          let g : largestNumber < v = omega (arith, leb-false (10 * n + (b - digitZero)) largestNumber l, value-grows (10 * n + (b - digitZero)) bs) in
-          rw (le-leb n largestNumber h, d, l) (no-number bs ∙ sym (too-large (all isDigit bs) v g))))
+    (λ l. rw (le-leb n largestNumber h, d, l) (by-digits (10 * n + (b - digitZero)) bs (leb-true _ _ l)))
+    (λ l.
+    let v = valueFrom (10 * n + (b - digitZero)) bs in
+    let g : largestNumber < v = omega (arith, leb-false (10 * n + (b - digitZero)) largestNumber l, value-grows (10 * n + (b - digitZero)) bs) in
+    rw (le-leb n largestNumber h, d, l) (no-number bs ∙ sym (too-large (all isDigit bs) v g))))
     (λ d. rw (le-leb n largestNumber h, d) (no-number bs))
 
 -- a loop that extends n by each byte of w
@@ -170,25 +170,25 @@ module _ {n : ℕ} (w : List ℕ) (same : n ≡ numeralOf w) where
   unfolding numeralOf numberOf
   number-unread h = by-test (isNumberWord w)
       (λ e.
-        let v : n ≡ valueOf w = rw e at same in
-        let l : valueOf w ≤ largestNumber = leb-true (valueOf w) largestNumber (true-and (isNumeral w) (leb (valueOf w) largestNumber) e .1) in
-        absurd (omega arith))
+      let v : n ≡ valueOf w = rw e at same in
+      let l : valueOf w ≤ largestNumber = leb-true (valueOf w) largestNumber (true-and (isNumeral w) (leb (valueOf w) largestNumber) e .1) in
+      absurd (omega arith))
       (λ e. rw e)
 
   pub identifier-read : n ≤ 255 → record { readable = true; bytes = replicate 15 0 ++ (n ∷ []) } ≡ identifierWordOf w
   unfolding numeralOf identifierWordOf
   identifier-read h = by-test (isNumberWord w)
       (λ e.
-        let v : n ≡ valueOf w = rw e at same in
-        rw (true-and (isNumeral w) (leb (valueOf w) largestNumber) e .0, le-leb (valueOf w) 255 (omega arith), v))
+      let v : n ≡ valueOf w = rw e at same in
+      rw (true-and (isNumeral w) (leb (valueOf w) largestNumber) e .0, le-leb (valueOf w) 255 (omega arith), v))
       (λ e. let v : n ≡ noNumber = rw e at same in absurd (omega arith))
 
   pub identifier-unread : 255 < n → record { readable = false; bytes = zeroId } ≡ identifierWordOf w
   unfolding numeralOf identifierWordOf
   identifier-unread h = by-test (isIdentifierWord w)
       (λ e.
-        let d : isNumeral w ≡ true = true-and (isNumeral w) (leb (valueOf w) 255) e .0 in
-        let l : valueOf w ≤ 255 = leb-true (valueOf w) 255 (true-and (isNumeral w) (leb (valueOf w) 255) e .1) in
-        let v : n ≡ valueOf w = rw (d, le-leb (valueOf w) largestNumber (omega arith)) at same in
-        absurd (omega arith))
+      let d : isNumeral w ≡ true = true-and (isNumeral w) (leb (valueOf w) 255) e .0 in
+      let l : valueOf w ≤ 255 = leb-true (valueOf w) 255 (true-and (isNumeral w) (leb (valueOf w) 255) e .1) in
+      let v : n ≡ valueOf w = rw (d, le-leb (valueOf w) largestNumber (omega arith)) at same in
+      absurd (omega arith))
       (λ e. rw e)

@@ -2,7 +2,8 @@
 use Prim.Native.Nat.{ℕ, _≤_}
 use mathlib.Core.Path.{_≡_}
 use mathlib.Core.List.{List, [], _∷_, _++_}
-use lib.ListN.{length, take, drop}
+use lib.ListN.{length, take}
+use lib.Seq.{sets}
 use Rattle.rules.specs.declared.Command.{Command}
 use Rattle.rules.specs.declared.Signal.{Signal}
 use Rattle.rules.specs.declared.Signals.{Signals}
@@ -27,9 +28,9 @@ outputLine why used signals = outputOf why used (signalsOf signals) ++ (newline 
 abbrev pub outputMost : ℕ
 outputMost = 494
 
--- the line stands at the start of the lent buffer, and nothing beyond it is changed
+-- the line stands at the start of the lent buffer, and nothing behind it is changed
 pub record Writes (why used : ℕ) (signals : Signals) (before : List ℕ) (size : ℕ) (after : List ℕ) : Type 0 where
   pub sized : size ≡ length (outputLine why used signals)
-  pub bytes : after ≡ outputLine why used signals ++ drop (length (outputLine why used signals)) before
+  pub bytes : after ≡ sets before 0 (outputLine why used signals)
   -- follows from the first, and lets a caller take these bytes of the buffer
   pub within : size ≤ outputMost

@@ -11,9 +11,20 @@ ghost use mathlib.Core.Bool.{_&&_};
 ghost use Rattle.trace_line.specs.Words.{wordEnd, extendedOf, digitsValue, numeralOf, numberOf, identifierWordOf};
 ghost use Rattle.trace_line.specs.Puts.{Puts, Converts, signalText};
 ghost use Rattle.trace_line.specs.Lines.{Reads, Writes, outputMost};
-
+use rules::Act;
+use rules::Command;
+use rules::Event;
+use rules::Kind;
+use rules::Mark;
+use rules::Name;
+use rules::Order;
+use rules::Reply;
+use rules::RmId;
+use rules::Signal;
+use rules::Signals;
+use rules::TxId;
+use rules::Vote;
 use rules::sizes;
-use rules::{Act, Command, Event, Kind, Mark, Name, Order, Reply, RmId, Signal, Signals, TxId, Vote};
 
 // ---- Words.
 
@@ -316,7 +327,12 @@ fn enlist_as(t: &[u8], n: &[u8], r: &[u8], kind: Kind, mark: Mark) -> Command
     let readable = and(and(tx.readable, number.readable), rm.readable);
     let named = tx.bytes;
     let enlisting = rm.bytes;
-    step_if(readable, Act::Enlist(number.value, kind, mark), named, enlisting)
+    step_if(
+        readable,
+        Act::Enlist(number.value, kind, mark),
+        named,
+        enlisting,
+    )
 }
 
 fn enlist_marked(t: &[u8], n: &[u8], r: &[u8], k: &[u8], mark: Mark) -> Command

@@ -1,5 +1,14 @@
 // Reads each line of standard input and writes the parts of its command, and then some output lines.
-use rules::{Act, Command, Kind, Mark, Name, Order, Reply, Signal, Signals, Vote};
+use rules::Act;
+use rules::Command;
+use rules::Kind;
+use rules::Mark;
+use rules::Name;
+use rules::Order;
+use rules::Reply;
+use rules::Signal;
+use rules::Signals;
+use rules::Vote;
 
 fn word(w: &[u8]) {
     io::write_all(1, w);

@@ -16,11 +16,11 @@ after-five-spec =
     (λ c κs. search needs)
     (λ c κs. search needs)
     (λ c.
-      let b = c .before in
-      let a = b .before .before .before .before .before .before .before .before .args in
-      more-words (λ ws. wordsRead (now (a .w) ∷ now (a .a) ∷ now (a .b) ∷ now (a .c) ∷ now (a .d) ∷ ws)) (now (a .rest)) (b .before .word-end .ensures) (b .if1 .taken)
-      (some-words (λ ws. wordsRead (now (a .w) ∷ now (a .a) ∷ now (a .b) ∷ now (a .c) ∷ now (a .d) ∷ take (b .before .word-end .result) (now (a .rest)) ∷ ws)) (λ w ws. c .unreadable .ensures) _))
+    let b = c .before in
+    let a = b .before .before .before .before .before .before .before .before .args in
+    more-words (λ ws. wordsRead (now (a .w) ∷ now (a .a) ∷ now (a .b) ∷ now (a .c) ∷ now (a .d) ∷ ws)) (now (a .rest)) (b .before .word-end .ensures) (b .if1 .taken)
+    (some-words (λ ws. wordsRead (now (a .w) ∷ now (a .a) ∷ now (a .b) ∷ now (a .c) ∷ now (a .d) ∷ take (b .before .word-end .result) (now (a .rest)) ∷ ws)) (λ w ws. c .unreadable .ensures) _))
     (λ c.
-      let b = c .before in
-      let a = b .before .before .before .before .before .before .before .before .args in
-      last-word (λ ws. wordsRead (now (a .w) ∷ now (a .a) ∷ now (a .b) ∷ now (a .c) ∷ now (a .d) ∷ ws)) (now (a .rest)) (b .before .word-end .ensures) (b .if1 .left) (c .six-words .ensures)))
+    let b = c .before in
+    let a = b .before .before .before .before .before .before .before .before .args in
+    last-word (λ ws. wordsRead (now (a .w) ∷ now (a .a) ∷ now (a .b) ∷ now (a .c) ∷ now (a .d) ∷ ws)) (now (a .rest)) (b .before .word-end .ensures) (b .if1 .left) (c .six-words .ensures)))

@@ -23,10 +23,10 @@ after-three-spec =
     (λ c κs. search needs)
     (λ c κs. search needs)
     (λ c.
-      let b = c .before .before .before in
-      let a = b .before .before .before .before .before .before .args in
-      more-words (λ ws. wordsRead (now (a .w) ∷ now (a .a) ∷ now (a .b) ∷ ws)) (now (a .rest)) (b .before .word-end .ensures) (b .if1 .taken) (c .after-four .ensures))
+    let b = c .before .before .before in
+    let a = b .before .before .before .before .before .before .args in
+    more-words (λ ws. wordsRead (now (a .w) ∷ now (a .a) ∷ now (a .b) ∷ ws)) (now (a .rest)) (b .before .word-end .ensures) (b .if1 .taken) (c .after-four .ensures))
     (λ c.
-      let b = c .before in
-      let a = b .before .before .before .before .before .before .args in
-      last-word (λ ws. wordsRead (now (a .w) ∷ now (a .a) ∷ now (a .b) ∷ ws)) (now (a .rest)) (b .before .word-end .ensures) (b .if1 .left) (c .unreadable .ensures)))
+    let b = c .before in
+    let a = b .before .before .before .before .before .before .args in
+    last-word (λ ws. wordsRead (now (a .w) ∷ now (a .a) ∷ now (a .b) ∷ ws)) (now (a .rest)) (b .before .word-end .ensures) (b .if1 .left) (c .unreadable .ensures)))

@@ -7,13 +7,13 @@ pub enlist-as-spec : {M : Type 1} → statement M
 enlist-as-spec =
     tie.close
     (tie.spec
-    (λ c κs. search needs) -- read-identifier-requires
-    (λ c κs. search needs) -- read-number-requires
-    (λ c κs. search needs) -- read-identifier-requires-2
-    (λ c κs. search needs) -- and-requires
-    (λ c κs. search needs) -- and-requires-2
-    (λ c κs. search needs) -- step-if-requires
+    (λ c κs. search needs)  -- read-identifier-requires
+    (λ c κs. search needs)  -- read-number-requires
+    (λ c κs. search needs)  -- read-identifier-requires-2
+    (λ c κs. search needs)  -- and-requires
+    (λ c κs. search needs)  -- and-requires-2
+    (λ c κs. search needs)  -- step-if-requires
     (λ c.
-      let b = c .before .before .before in
-      let d = b .before .before in
-      enlist-read _ _ _ _ _ (d .before .before .read-identifier .ensures) (d .before .read-number .ensures) (d .read-identifier2 .ensures) (b .before .and .ensures) (b .and2 .ensures) (c .step-if .ensures))) -- returns
+    let b = c .before .before .before in
+    let d = b .before .before in
+    enlist-read _ _ _ _ _ (d .before .before .read-identifier .ensures) (d .before .read-number .ensures) (d .read-identifier2 .ensures) (b .before .and .ensures) (b .and2 .ensures) (c .step-if .ensures)))  -- returns

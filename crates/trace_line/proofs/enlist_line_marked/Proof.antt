@@ -13,17 +13,17 @@ enlist-line-marked-spec =
     (λ c κs. search needs)
     (λ c κs. search needs)
     (λ c.
-      let b1 = c .before in
-      rw (told (b1 .before .is-word .ensures) (b1 .if1 .taken)) (c .enlist-marked .ensures))
+    let b1 = c .before in
+    rw (told (b1 .before .is-word .ensures) (b1 .if1 .taken)) (c .enlist-marked .ensures))
     (λ c. search needs)
     (λ c κs. search needs)
     (λ c κs. search needs)
     (λ c.
-      let b2 = c .before in
-      let b1 = b2 .before .before .before in
-      rw (told (b1 .before .is-word .ensures) (b1 .if1 .left), told (b2 .before .is-word2 .ensures) (b2 .if2 .taken)) (c .enlist-marked2 .ensures))
+    let b2 = c .before in
+    let b1 = b2 .before .before .before in
+    rw (told (b1 .before .is-word .ensures) (b1 .if1 .left), told (b2 .before .is-word2 .ensures) (b2 .if2 .taken)) (c .enlist-marked2 .ensures))
     (λ c κs. search needs)
     (λ c.
-      let b2 = c .before in
-      let b1 = b2 .before .before .before in
-      rw (told (b1 .before .is-word .ensures) (b1 .if1 .left), told (b2 .before .is-word2 .ensures) (b2 .if2 .left)) (c .unreadable .ensures)))
+    let b2 = c .before in
+    let b1 = b2 .before .before .before in
+    rw (told (b1 .before .is-word .ensures) (b1 .if1 .left), told (b2 .before .is-word2 .ensures) (b2 .if2 .left)) (c .unreadable .ensures)))

@@ -18,6 +18,6 @@ put-signals-spec =
     (λ c. search needs)
     (λ c. search needs)
     (λ c.
-      let l = c .before .before .before .before in
-      sending-again noSignal (l .loop .inv) (c .before .before .before .loop-test .taken) (search needs) (c .put-signal .ensures))
+    let l = c .before .before .before .before in
+    sending-again noSignal (l .loop .inv) (c .before .before .before .loop-test .taken) (search needs) (c .put-signal .ensures))
     (λ c. sending-done (c .before .loop .inv) (c .loop-test .left)))

@@ -25,10 +25,10 @@ read-line-spec =
     (λ c κs. search needs)
     (λ c κs. search needs)
     (λ c.
-      let b = c .before .before .before in
-      let a = b .before .before .before .before .args in
-      rw (le-leb _ _ (b .before .before .if1 .left)) (more-words wordsRead (now (a .line)) (b .before .word-end .ensures) (b .if2 .taken) (c .after-one .ensures)))
+    let b = c .before .before .before in
+    let a = b .before .before .before .before .args in
+    rw (le-leb _ _ (b .before .before .if1 .left)) (more-words wordsRead (now (a .line)) (b .before .word-end .ensures) (b .if2 .taken) (c .after-one .ensures)))
     (λ c.
-      let b = c .before in
-      let a = b .before .before .before .before .args in
-      rw (le-leb _ _ (b .before .before .if1 .left)) (last-word wordsRead (now (a .line)) (b .before .word-end .ensures) (b .if2 .left) (c .one-word .ensures))))
+    let b = c .before in
+    let a = b .before .before .before .before .args in
+    rw (le-leb _ _ (b .before .before .if1 .left)) (last-word wordsRead (now (a .line)) (b .before .word-end .ensures) (b .if2 .left) (c .one-word .ensures))))

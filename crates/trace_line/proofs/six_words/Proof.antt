@@ -14,8 +14,8 @@ six-words-spec =
     (λ c κs. search needs)
     (λ c κs. search needs)
     (λ c.
-      let b1 = c .before in
-      rw (told (b1 .before .is-word .ensures) (b1 .if1 .taken)) (c .enlist-line-marked .ensures))
+    let b1 = c .before in
+    rw (told (b1 .before .is-word .ensures) (b1 .if1 .taken)) (c .enlist-line-marked .ensures))
     (λ c.
-      let b1 = c .before in
-      rw (told (b1 .before .is-word .ensures) (b1 .if1 .left)) (c .unreadable .ensures)))
+    let b1 = c .before in
+    rw (told (b1 .before .is-word .ensures) (b1 .if1 .left)) (c .unreadable .ensures)))

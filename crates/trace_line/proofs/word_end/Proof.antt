@@ -18,11 +18,11 @@ word-end-spec =
     (λ c. look-start refl)
     (λ c. search needs)
     (λ c.
-      let l = c .before .before .before in
-      omega (arith, look-stop {r = l .loop .i} 0 (l .loop .inv) (c .before .before .loop-test .taken) (λ xs. rw (c .if1 .taken) (omega arith))))
+    let l = c .before .before .before in
+    omega (arith, look-stop {r = l .loop .i} 0 (l .loop .inv) (c .before .before .loop-test .taken) (λ xs. rw (c .if1 .taken) (omega arith))))
     (λ c. search needs)
     (λ c. search needs)
     (λ c. look-next 0 (c .before .before .before .loop .inv) (c .before .before .loop-test .taken) (λ xs. rw (c .if1 .left) (omega arith)))
     (λ c.
-      let l = c .before in
-      omega (arith, look-done {r = l .loop .i} (l .loop .inv) (c .loop-test .left) (omega arith))))
+    let l = c .before in
+    omega (arith, look-done {r = l .loop .i} (l .loop .inv) (c .loop-test .left) (omega arith))))
