@@ -1,4 +1,7 @@
 // Reads each line of standard input and writes the parts of its command, and then some output lines.
+
+ghost use Prim.Native.Nat.{_≤_};
+ghost use lib.ListN.{length};
 use rules::Act;
 use rules::Command;
 use rules::Kind;
@@ -78,16 +81,27 @@ fn act_of(a: Act) {
     }
 }
 
-fn id(bytes: [u8; 16]) {
+fn wide(b: u8) -> u64
+    ensures { λ r. ⌜ r ≤ 255 ⌝ }
+{
+    b as u64
+}
+
+// The sum of the bytes before the last, which are to be zero.
+fn leading(bytes: [u8; 16]) -> u64 {
     let mut sum: u64 = 0;
     let mut i: usize = 0;
     while i < 15 {
-        sum += bytes[i] as u64;
+        sum += wide(bytes[i]);
         i += 1;
     }
-    io::print_decimal(1, sum);
+    sum
+}
+
+fn identifier(bytes: [u8; 16]) {
+    io::print_decimal(1, leading(bytes));
     io::write_all(1, b"/");
-    io::print_decimal(1, bytes[15] as u64);
+    io::print_decimal(1, wide(bytes[15]));
     io::write_all(1, b" ");
 }
 
@@ -104,10 +118,10 @@ fn show(line: &[u8]) {
     act_of(act);
     let tx = e.tx;
     let t = tx.0;
-    id(t);
+    identifier(t);
     let rm = e.rm;
     let r = rm.0;
-    id(r);
+    identifier(r);
     io::write_all(1, b" <");
     io::write_all(1, line);
     io::write_all(1, b">\n");
@@ -119,77 +133,69 @@ fn out(refusal: u8, used: u32, signals: Signals) {
     io::write_all(1, &buffer[..n]);
 }
 
-fn main() {
-    let mut space = [0u8; 8192];
-    let n = io::read_full(0, &mut space);
-    let mut from: usize = 0;
-    let mut i: usize = 0;
-    while i < n {
-        if space[i] == b'\n' {
-            show(&space[from..i]);
-            from = i + 1;
+// The place of the first newline from `from` on, and the length where there is none.
+fn line_end(input: &[u8], from: usize) -> usize
+    requires { ⌜ from ≤ length (now input) ⌝ }
+    ensures { λ r. ⌜ (from ≤ r) × (r ≤ length (now (input .entry))) ⌝ }
+{
+    let mut i = from;
+    while i < input.len() {
+        if input[i] == b'\n' {
+            return i;
         }
         i += 1;
     }
-    show(&space[from..n]);
-    let none = Signal {
-        name: Name::Nothing,
-        number: 0,
-    };
-    out(
-        0,
-        8,
-        Signals {
-            items: [none; 17],
-            count: 0,
-        },
+    i
+}
+
+fn show_lines(input: &[u8]) {
+    let mut from: usize = 0;
+    while from <= input.len() {
+        let end = line_end(input, from);
+        show(&input[from..end]);
+        from = end + 1;
+    }
+}
+
+fn put(refusal: u8, used: u32, count: u8, first: Signal, second: Signal) {
+    let mut items = [first; 17];
+    items[1] = second;
+    out(refusal, used, Signals { items, count });
+}
+
+fn signal(name: Name, number: u32) -> Signal {
+    Signal { name, number }
+}
+
+fn main() {
+    let mut space = [0u8; 8192];
+    let n = io::read_full(0, &mut space);
+    show_lines(&space[..n]);
+    let none = signal(Name::Nothing, 0);
+    put(0, 8, 0, none, none);
+    let most = signal(Name::AnswerCommitted, 4294967295);
+    put(255, 4294967295, 200, most, most);
+    put(
+        16,
+        65536,
+        2,
+        signal(Name::Commit, 2),
+        signal(Name::AppCommitted, 0),
     );
-    let most = Signal {
-        name: Name::AnswerCommitted,
-        number: 4294967295,
-    };
-    let mut items = [most; 17];
-    out(255, 4294967295, Signals { items, count: 200 });
-    items[0] = Signal {
-        name: Name::Commit,
-        number: 2,
-    };
-    items[1] = Signal {
-        name: Name::AppCommitted,
-        number: 0,
-    };
-    out(16, 65536, Signals { items, count: 2 });
-    items[0] = Signal {
-        name: Name::Zero,
-        number: 10,
-    };
-    items[1] = Signal {
-        name: Name::Prepare,
-        number: 9,
-    };
-    items[2] = Signal {
-        name: Name::Single,
-        number: 99,
-    };
-    items[3] = Signal {
-        name: Name::Abort,
-        number: 100,
-    };
-    items[4] = Signal {
-        name: Name::AppAborted,
-        number: 1000000000,
-    };
-    items[5] = Signal {
-        name: Name::AppInDoubt,
-        number: 1,
-    };
-    items[6] = Signal {
-        name: Name::AnswerAborted,
-        number: 1,
-    };
-    items[7] = Signal {
-        name: Name::AnswerNotYet,
-        number: 1,
-    };
-    out(10, 100, Signals { items, count: 8 });
+    put(10, 100, 2, signal(Name::Zero, 10), signal(Name::Prepare, 9));
+    put(9, 99, 2, signal(Name::Single, 99), signal(Name::Abort, 100));
+    put(
+        1,
+        0,
+        2,
+        signal(Name::AppAborted, 1000000000),
+        signal(Name::AppInDoubt, 1),
+    );
+    put(
+        2,
+        10,
+        2,
+        signal(Name::AnswerAborted, 0),
+        signal(Name::AnswerNotYet, 11),
+    );
 }
