@@ -10,7 +10,7 @@ use Rattle.rules.specs.declared.Kind.{Kind}
 use Rattle.rules.specs.declared.Mark.{Mark}
 use Rattle.rules.specs.declared.Order.the-variants as order
 use Rattle.rules.specs.declared.Command.{Command}
-use Rattle.rules.specs.Identifiers.{Id, zeroId}
+use Rattle.rules.specs.Identifiers.{zeroId}
 use Rattle.rules.specs.Trace.{ordered, readIf, isIdentifierWord, identifierOf, isNumberWord, valueOf, ofTransaction, ofNumber, askLine, enlistAs}
 use Rattle.trace_line.specs.declared.Number.{Number}
 use Rattle.trace_line.specs.declared.Identifier.{Identifier}

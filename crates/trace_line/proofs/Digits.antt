@@ -1,17 +1,15 @@
 -- A number's digits, from the last to the first: what is left of the number, in decimal, stands before the digits that were written.
-use Prim.Native.Nat.{ℕ, zero, suc, _+_, _-_, _*_, _/_, _%_, _^_, _≤_, _<_}
+use Prim.Native.Nat.{ℕ, zero, suc, _+_, _-_, _/_, _%_, _^_, _≤_, _<_}
 use native.Mathlib.Omega.{arith}
 use native.Mathlib.Nat.{pow-succ'}
-use mathlib.Core.Path.{_≡_, refl, sym, _∙_}
-use mathlib.Core.Bool.{cond}
-use mathlib.Core.List.{List, [], _∷_, _++_, append-assoc, append-nil}
+use mathlib.Core.Path.{_≡_, sym, _∙_}
+use mathlib.Core.List.{List, _∷_, _++_, append-assoc, append-nil}
 use lib.Dec.{ltb}
 use lib.ListN.{length, set, drop, length-set, length-append, drop-of-length-le}
 use lib.Seq.{drop-cons, getD-set-same, drop-set-lt}
-use borrow.Author.Tests.{lt-ltb, le-ltb, ltb-true, ltb-false}
+use borrow.Author.Tests.{lt-ltb, le-ltb}
 use Rattle.lists.proofs.Tests.{by-test}
-use Rattle.rules.specs.Trace.{digitZero, digits, decimal}
-use Rattle.trace_line.specs.declared.Decimal.{Decimal}
+use Rattle.rules.specs.Trace.{digitZero, digits}
 use Rattle.trace_line.specs.Puts.{Converts}
 
 -- ── how many ────────────────────────────────────────────────────────────────────────────────────────────────────

@@ -1,6 +1,6 @@
 -- The whole output line: its parts behind one another are the line of the definition, and the longest has 494 bytes, since each number has at most
 -- ten digits, a refusal three, a count two, and a name at most 16 bytes.
-use Prim.Native.Nat.{ℕ, zero, suc, _+_, _*_, _^_, _≤_, _<_, min}
+use Prim.Native.Nat.{ℕ, zero, suc, _+_, _*_, _≤_, _<_, min}
 use native.Mathlib.Omega.{arith}
 use native.Mathlib.Nat.{zero-add}
 use mathlib.Core.Path.{_≡_, refl, sym, _∙_, ap}

@@ -1,12 +1,12 @@
 -- Bytes written one after another: what is written at a place and behind it is written at once, and changes nothing else.
-use Prim.Native.Nat.{ℕ, zero, suc, _+_, _-_, _*_, _≤_, _<_}
+use Prim.Native.Nat.{ℕ, suc, _+_, _-_, _*_, _≤_, _<_}
 use native.Mathlib.Omega.{arith}
-use mathlib.Core.Path.{_≡_, refl, sym, _∙_}
+use mathlib.Core.Path.{_≡_, refl, _∙_}
 use mathlib.Core.List.{List, [], _∷_, _++_, map, append-assoc, append-nil}
 use native.Mathlib.Numerals.{add-one}
 use lib.Dec.{lit≤}
 use lib.ListN.{length, getD, set, take, drop, length-append, length-drop, length-map}
-use lib.Seq.{sets, sets-eq, length-sets, take-all, take-suc}
+use lib.Seq.{sets, take-all, take-suc}
 use Rattle.trace_line.specs.Puts.{Puts, Converts, signalText}
 use Rattle.rules.specs.declared.Name.{Name}
 use Rattle.rules.specs.declared.Name.the-variants as name

@@ -1,5 +1,5 @@
 -- What the code knows of a word or of a line's first space gives what the definitions say of it. Each law goes along the bytes.
-use Prim.Native.Nat.{ℕ, zero, suc, _+_, _-_, _*_, _≤_, _<_}
+use Prim.Native.Nat.{ℕ, suc, _+_, _-_, _*_, _≤_, _<_}
 use native.Mathlib.Omega.{arith}
 use mathlib.Core.Path.{_≡_, refl, sym, _∙_, ap}
 use mathlib.Core.Bool.{Bool, true, false, cond, not, _&&_, _||_}
@@ -18,13 +18,6 @@ use Rattle.trace_line.proofs.Loops.{drop-at, drop-done}
 use Rattle.trace_line.specs.Words.{wordEnd, noNumber, extendedOf, digitsValue, numeralOf, numberOf, identifierWordOf}
 
 -- ── the words of a line ─────────────────────────────────────────────────────────────────────────────────────────
-
-pub end-within : (s : List ℕ) → wordEnd s ≤ length s
-unfolding wordEnd
-end-within [] = omega arith
-end-within (b ∷ bs) = by-test (eqb b space)
-    (λ e. rw e (omega arith))
-    (λ e. let h : wordEnd bs ≤ length bs = end-within bs in rw e (omega arith))
 
 -- a space ends the first word, and the others follow it
 pub words-more : (s : List ℕ) → wordEnd s < length s → words s ≡ take (wordEnd s) s ∷ words (drop (suc (wordEnd s)) s)

@@ -1,13 +1,13 @@
 // Lines of the trace program: an input line to a command, and a result to its output line.
 
 ghost use mathlib.Core.Path.{_≡_};
+ghost use mathlib.Core.Bool.{_&&_};
 ghost use mathlib.Core.List.{[], _∷_};
 ghost use Prim.Native.Nat.{_+_, _*_, _≤_, min};
 ghost use lib.ListN.{length, take};
 ghost use Rattle.rules.specs.Identifiers.{sameBytes, zeroId};
 ghost use Rattle.rules.specs.Trace as Trace;
 ghost use Rattle.rules.specs.Trace.{words, wordsRead, readIf, ofTransaction, isIdentifierWord, identifierOf, twoWords, threeWords, voteLine, replyLine, askLine, enlistAs, enlistMarked, enlistLineMarked, decimal, nameText, signalTexts};
-ghost use mathlib.Core.Bool.{_&&_};
 ghost use Rattle.trace_line.specs.Words.{wordEnd, extendedOf, digitsValue, numeralOf, numberOf, identifierWordOf};
 ghost use Rattle.trace_line.specs.Puts.{Puts, Converts, signalText};
 ghost use Rattle.trace_line.specs.Lines.{Reads, Writes, outputMost};
@@ -28,7 +28,7 @@ use rules::sizes;
 
 // ---- Words.
 
-// Above every number that a line may name: stands for a word that is none.
+// Stands for a word that is no number, since no line may name one so large.
 const NO_NUMBER: u64 = 4294967296;
 
 const LARGEST: u64 = 4294967295;
@@ -36,15 +36,15 @@ const LARGEST: u64 = 4294967295;
 const LARGEST_IDENTIFIER: u64 = 255;
 
 // What a word says where it names an enlistment's number; 0 where it can't be read.
-pub struct Number {
-    pub readable: bool,
-    pub value: u32,
+struct Number {
+    readable: bool,
+    value: u32,
 }
 
 // What a word says where it names a transaction or a resource manager; zeros where it can't be read.
-pub struct Identifier {
-    pub readable: bool,
-    pub bytes: [u8; 16],
+struct Identifier {
+    readable: bool,
+    bytes: [u8; 16],
 }
 
 // The place of the first space, and the length where there is none.
@@ -184,7 +184,7 @@ fn unreadable() -> Command
     ordered(Order::Unreadable, Act::Begin, [0u8; 16], [0u8; 16])
 }
 
-// Both are computed before the test, so that no branch stands in front of a call.
+// A function, so that a test of two words is one value and not a branch.
 fn and(a: bool, b: bool) -> bool
     ensures { λ result. ⌜ result ≡ (a && b) ⌝ }
 {
@@ -446,6 +446,7 @@ fn after_one<'a>(w: &'a [u8], rest: &'a [u8]) -> Command
     }
 }
 
+// A line, without its newline, to the command that it is; Unreadable stands for refusal 16.
 pub fn read_line(line: &[u8]) -> Command
     ensures { λ command. ⌜ Reads (now (line .entry)) command ⌝ }
 {
@@ -466,9 +467,9 @@ pub fn read_line(line: &[u8]) -> Command
 pub const OUTPUT: usize = 494;
 
 // A number in decimal: what stands in bytes from `from` on.
-pub struct Decimal {
-    pub bytes: [u8; 10],
-    pub from: usize,
+struct Decimal {
+    bytes: [u8; 10],
+    from: usize,
 }
 
 fn decimal_of(n: u32) -> Decimal
@@ -555,13 +556,14 @@ fn put_signals(buffer: &mut [u8; OUTPUT], from: usize, items: [Signal; 17], n: u
     at
 }
 
-// How many of the items are signals.
+// How many of the items are signals; a count above their number takes them all.
 fn signal_count(count: u8) -> u8
     ensures { λ result. ⌜ result ≡ min count 17 ⌝ }
 {
     if count <= 17 { count } else { 17 }
 }
 
+// A result to its output line, which is written at the start of the buffer, newline and all; gives its length.
 pub fn write_line(refusal: u8, used: u32, signals: Signals, buffer: &mut [u8; OUTPUT]) -> usize
     ensures { λ size. ⌜ Writes refusal used signals (now (buffer .entry)) size (now (buffer .exit)) ⌝ }
 {

@@ -1,3 +1,4 @@
+-- A space in the rest makes a seventh word, and no command has one; without a space the rest is the sixth.
 use borrow.Author.Needs.{needs}
 use denote.Ref.{now}
 use lib.ListN.{take}

@@ -1,3 +1,4 @@
+-- Where both words can be read, the identifiers are what was read of them; else the line can't be read.
 use borrow.Author.Needs.{needs}
 use Rattle.trace_line.proofs.Commands.{ask-read}
 use Rattle.trace_line.proofs.ask_line.Statement.{statement}

@@ -1,3 +1,4 @@
+-- What is left of the number, in decimal, stands before the digits that were written, until one digit is left.
 use borrow.Author.Needs.{needs}
 use native.Mathlib.Omega.{arith}
 use mathlib.Core.Path.{refl}

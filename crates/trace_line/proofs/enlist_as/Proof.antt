@@ -1,3 +1,4 @@
+-- Where all three words can be read, the parts are what was read of them; else the line can't be read.
 use borrow.Author.Needs.{needs}
 use Rattle.trace_line.proofs.Commands.{enlist-read}
 use Rattle.trace_line.proofs.enlist_as.Statement.{statement}

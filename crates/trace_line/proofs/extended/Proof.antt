@@ -1,3 +1,4 @@
+-- Each test on the way is one of the definition's, and the first that fails decides.
 use borrow.Author.Needs.{needs}
 use borrow.Author.Tests.{le-leb, lt-leb}
 use Rattle.trace_line.specs.Words.{extendedOf}

@@ -1,3 +1,4 @@
+-- The test is the definition's, at the bytes of its text; the mark is the one that an absent word means.
 use borrow.Author.Needs.{needs}
 use Rattle.rules.specs.Trace.{text, wordsRead, enlistLine}
 use Rattle.trace_line.proofs.Commands.{told}

@@ -1,3 +1,4 @@
+-- Words of another length differ; of the same length, equal first bytes leave the answer to the others.
 use Prim.Native.Nat.{_-_}
 use mathlib.Core.Path.{refl, sym}
 use borrow.Author.Needs.{needs}

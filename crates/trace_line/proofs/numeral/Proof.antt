@@ -1,3 +1,4 @@
+-- A word of one byte has no leading zero, and a longer one has it if its first byte is a zero.
 use borrow.Author.Needs.{needs}
 use denote.Ref.{now}
 use Rattle.trace_line.proofs.Words.{no-word, one-digit, leading-zero, no-leading-zero}

@@ -1,3 +1,4 @@
+-- Where the word can be read, its identifier is what was read of it; where not, the line can't be read.
 use borrow.Author.Needs.{needs}
 use Rattle.trace_line.proofs.Commands.{manager-read}
 use Rattle.trace_line.proofs.of_manager.Statement.{statement}

@@ -1,3 +1,4 @@
+-- Each name is written as its text.
 use borrow.Author.Needs.{needs}
 use Rattle.rules.specs.Trace.{text, nameText}
 use Rattle.trace_line.proofs.put_name.Statement.{statement}

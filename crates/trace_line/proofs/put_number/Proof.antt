@@ -1,3 +1,4 @@
+-- The digits are the bytes from the first that was written to the end of their array.
 use borrow.Author.Needs.{needs}
 use Rattle.trace_line.proofs.Puts.{put-decimal}
 use Rattle.trace_line.proofs.put_number.Statement.{statement}

@@ -1,3 +1,4 @@
+-- The signals that were written, and one more behind them, are the next signals written.
 use borrow.Author.Needs.{needs}
 use Prim.Native.Nat.{_-_}
 use Rattle.trace_line.proofs.Puts.{Sending, sending-start, sending-again, sending-done, long}

@@ -1,3 +1,4 @@
+-- What is left of the text, written behind what was written, gives the whole text at its place.
 use Prim.Native.Nat.{_-_}
 use borrow.Author.Needs.{needs}
 use lib.ListN.{length}

@@ -1,3 +1,4 @@
+-- The value of a word is at most 255 exactly if the word names an identifier, and its byte then stands last of 16.
 use borrow.Author.Needs.{needs}
 use denote.Ref.{now}
 use Rattle.trace_line.proofs.Words.{identifier-read, identifier-unread}

@@ -1,3 +1,4 @@
+-- A line that is too long can't be read; else its words are its first and those behind the space, or the line itself.
 use borrow.Author.Needs.{needs}
 use borrow.Author.Tests.{le-leb, lt-leb}
 use denote.Ref.{now}

@@ -1,3 +1,4 @@
+-- The value of a word is at most the largest number exactly if the word is one.
 use borrow.Author.Needs.{needs}
 use denote.Ref.{now}
 use Rattle.trace_line.proofs.Words.{number-read, number-unread}

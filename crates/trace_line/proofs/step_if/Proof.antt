@@ -1,3 +1,4 @@
+-- The test is the definition's.
 use borrow.Author.Needs.{needs}
 use Rattle.trace_line.proofs.step_if.Statement.{statement}
 use Rattle.trace_line.proofs.step_if.Tie as tie

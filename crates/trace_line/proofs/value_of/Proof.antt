@@ -1,5 +1,5 @@
+-- What is left of the word extends the value so far to the value of the whole, and a value too large stays so.
 use Prim.Native.Nat.{_-_}
-use mathlib.Core.Path.{refl}
 use borrow.Author.Needs.{needs}
 use lib.ListN.{length}
 use Rattle.trace_line.proofs.Words.{Extended, extended-start, extended-again, extended-done}

@@ -1,3 +1,4 @@
+-- The bytes before i hold no space, so the first space of what is left, counted from i, is the line's.
 use Prim.Native.Nat.{_+_, _-_}
 use mathlib.Core.Path.{refl}
 use native.Mathlib.Omega.{arith}

@@ -1,3 +1,4 @@
+-- The parts behind one another are the line, and each ends before the buffer does: 17 bytes at most for the three numbers, and 28 for each signal.
 use Prim.Native.Nat.{_≤_, _<_}
 use native.Mathlib.Omega.{arith}
 use borrow.Author.Needs.{needs}

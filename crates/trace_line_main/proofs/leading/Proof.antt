@@ -1,3 +1,4 @@
+-- Each byte adds at most 255.
 use Prim.Native.Nat.{_≤_, _-_, _*_}
 use borrow.Author.Needs.{needs}
 use Rattle.trace_line_main.proofs.leading.Statement.{statement}

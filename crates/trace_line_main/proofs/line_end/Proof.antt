@@ -1,3 +1,4 @@
+-- The index only grows, and stops at the length.
 use Prim.Native.Nat.{_≤_, _-_}
 use lib.ListN.{length}
 use borrow.Author.Needs.{needs}

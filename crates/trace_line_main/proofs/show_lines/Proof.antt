@@ -1,3 +1,4 @@
+-- Each turn goes past the end of a line, and at most one past the end of the input.
 use Prim.Native.Nat.{_≤_, _-_, _+_}
 use lib.ListN.{length}
 use borrow.Author.Needs.{needs}
