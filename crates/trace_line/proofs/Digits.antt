@@ -10,7 +10,7 @@ use lib.Seq.{drop-cons, getD-set-same, drop-set-lt}
 use borrow.Author.Tests.{lt-ltb, le-ltb}
 use Rattle.lists.proofs.Tests.{by-test}
 use Rattle.rules.specs.Trace.{digitZero, digits}
-use Rattle.trace_line.specs.Puts.{Converts}
+use Rattle.trace_line.specs.Puts.{Converts, digitsMost}
 
 -- ── how many ────────────────────────────────────────────────────────────────────────────────────────────────────
 
@@ -24,22 +24,22 @@ few-digits (suc k) (suc j) n h = by-test (ltb n 10)
     let l : length (digits k (n / 10)) ≤ suc j = few-digits k j (n / 10) (omega (arith, pow-succ' 10 (suc j))) in
     rw t (simp length-append (omega arith)))
 
-pub ten-digits : (k n : ℕ) → length (digits k n) ≤ k
+pub most-digits : (k n : ℕ) → length (digits k n) ≤ k
 unfolding digits
-ten-digits zero n = omega arith
-ten-digits (suc k) n = by-test (ltb n 10)
+most-digits zero n = omega arith
+most-digits (suc k) n = by-test (ltb n 10)
     (λ t. rw t (omega arith))
-    (λ t. let l : length (digits k (n / 10)) ≤ k = ten-digits k (n / 10) in rw t (simp length-append (omega arith)))
+    (λ t. let l : length (digits k (n / 10)) ≤ k = most-digits k (n / 10) in rw t (simp length-append (omega arith)))
 
 -- ── the loop ────────────────────────────────────────────────────────────────────────────────────────────────────
 
 -- k digits at most are left to write, of m
 pub record Converting (n : ℕ) (bytes : List ℕ) (k m : ℕ) : Type 0 where
   pub some : 1 ≤ k
-  pub within : k ≤ 10
-  pub long : length bytes ≡ 10
+  pub within : k ≤ digitsMost
+  pub long : length bytes ≡ digitsMost
   pub small : m < 10 ^ k
-  pub same : digits 10 n ≡ digits k m ++ drop k bytes
+  pub same : digits digitsMost n ≡ digits k m ++ drop k bytes
 
 drop-set : (l : List ℕ) (k b : ℕ) → k < length l → drop k (set l k b) ≡ b ∷ drop (suc k) l
 drop-set l k b h =
@@ -47,14 +47,14 @@ drop-set l k b h =
     drop-cons (set l k b) k 0 g ∙ rw (getD-set-same l k b 0 h, drop-set-lt (suc k) l k b (omega arith))
 
 module _ {n : ℕ} {bytes : List ℕ} where
-  pub convert-start : n < 2 ^ 32 → length bytes ≡ 10 → Converting n bytes 10 n
+  pub convert-start : n < 2 ^ 32 → length bytes ≡ digitsMost → Converting n bytes digitsMost n
   convert-start h e =
       record {
         some = omega arith;
         within = omega arith;
         long = e;
         small = omega arith;
-        same = rw (drop-of-length-le bytes {i = 10} (omega arith), append-nil);
+        same = rw (drop-of-length-le bytes {i = digitsMost} (omega arith), append-nil);
       }
 
   pub convert-again : (k : ℕ) {m : ℕ} → Converting n bytes k m → 10 ≤ m → Converting n (set bytes (k - 1) (digitZero + m % 10)) (k - 1) (m / 10)

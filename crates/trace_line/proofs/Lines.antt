@@ -5,7 +5,7 @@ use native.Mathlib.Omega.{arith}
 use native.Mathlib.Nat.{zero-add}
 use mathlib.Core.Path.{_≡_, refl, sym, _∙_, ap}
 use mathlib.Core.List.{List, [], _∷_, _++_}
-use lib.ListN.{length, set, take, drop, length-append, length-take}
+use lib.ListN.{length, set, take, drop, replicate, length-append, length-take}
 use lib.Dec.{leb}
 use lib.Seq.{sets, sets-eq, take-all}
 use borrow.Author.Tests.{leb-true, leb-false}
@@ -13,56 +13,63 @@ use Rattle.lists.proofs.Tests.{by-test}
 use Rattle.rules.specs.declared.Signal.{Signal}
 use Rattle.rules.specs.declared.Signals.{Signals}
 use Rattle.rules.specs.declared.Command.{Command}
-use Rattle.rules.specs.Signals.{padded, rowOf}
-use Rattle.rules.specs.Trace.{space, signalTexts, outputOf, decimal}
-use Rattle.trace_line.specs.Puts.{Puts, signalText}
+use Rattle.rules.specs.declared.Name.the-variants as name
+use Rattle.rules.specs.Sizes.{signalsMost, largestNumber}
+use Rattle.rules.specs.Signals.{signal, padded, rowOf}
+use Rattle.rules.specs.Trace.{space, text, nameText, digits, decimal, signalTexts, outputOf}
+use Rattle.trace_line.specs.Puts.{Puts, signalText, digitsMost, signalMost}
 use Rattle.trace_line.specs.Lines.{Reads, Writes, signalsOf, newline, outputLine, outputMost}
-use Rattle.trace_line.proofs.Digits.{few-digits, ten-digits}
+use Rattle.trace_line.proofs.Digits.{few-digits, most-digits}
 use Rattle.trace_line.proofs.Puts.{put-both, put-byte, signal-most}
 
 -- ── the longest line ────────────────────────────────────────────────────────────────────────────────────────────
 
-signals-most : (ss : List Signal) → length (signalTexts ss) ≤ 28 * length ss
+signals-most : (ss : List Signal) → length (signalTexts ss) ≤ signalMost * length ss
 unfolding signalTexts signalText
 signals-most [] = omega arith
 signals-most (s ∷ ss) =
-    let h : length (signalText s) ≤ 28 = signal-most s in
-    let t : length (signalTexts ss) ≤ 28 * length ss = signals-most ss in
+    let h : length (signalText s) ≤ signalMost = signal-most s in
+    let t : length (signalTexts ss) ≤ signalMost * length ss = signals-most ss in
     rw length-append (omega arith)
 
-pub taken-most : (k : ℕ) (ss : List Signal) → length (signalTexts (take k ss)) ≤ 28 * k
+pub taken-most : (k : ℕ) (ss : List Signal) → length (signalTexts (take k ss)) ≤ signalMost * k
 taken-most k ss =
     let n : length (take k ss) ≤ k = simp length-take (omega arith) in
     omega (arith, signals-most (take k ss))
 
 -- every output line, with its newline, fits into outputMost bytes
-pub output-fits : (why used : ℕ) (signals : Signals) → why < 256 → length (signals .items) ≡ 17 → length (outputLine why used signals) ≤ outputMost
+pub output-fits : (why used : ℕ) (signals : Signals) → why < 256 → length (signals .items) ≡ signalsMost → length (outputLine why used signals) ≤ outputMost
 unfolding outputLine outputOf
 output-fits why used signals h l =
     let n = length (signalsOf signals) in
-    let c : n ≤ 17 = simp length-take (omega arith) in
-    let a : length (decimal why) ≤ 3 = few-digits 10 2 why (omega arith) in
-    let b : length (decimal used) ≤ 10 = ten-digits 10 used in
-    let d : length (decimal n) ≤ 2 = few-digits 10 1 n (omega arith) in
-    let t : length (signalTexts (signalsOf signals)) ≤ 28 * n = signals-most (signalsOf signals) in
+    let c : n ≤ signalsMost = simp length-take (omega arith) in
+    let a : length (decimal why) ≤ 3 = few-digits digitsMost 2 why (omega arith) in
+    let b : length (decimal used) ≤ 10 = most-digits digitsMost used in
+    let d : length (decimal n) ≤ 2 = few-digits digitsMost 1 n (omega arith) in
+    let t : length (signalTexts (signalsOf signals)) ≤ signalMost * n = signals-most (signalsOf signals) in
     simp length-append (omega arith)
+
+-- and one of them needs them all
+pub longest : length (outputLine 255 largestNumber (record { items = replicate signalsMost (signal name.AnswerCommitted largestNumber); count = signalsMost })) ≡ outputMost
+unfolding outputLine outputOf signalTexts nameText text digits
+longest = refl
 
 -- ── the line behind its parts ───────────────────────────────────────────────────────────────────────────────────
 
-module _ (signals : Signals) (long : length (signals .items) ≡ 17) where
-  counted : min (signals .count) 17 ≡ length (signalsOf signals)
+module _ (signals : Signals) (long : length (signals .items) ≡ signalsMost) where
+  counted : min (signals .count) signalsMost ≡ length (signalsOf signals)
   counted = sym (length-take (signals .count) (signals .items) ∙ rw long)
 
-  taken : take (min (signals .count) 17) (signals .items) ≡ signalsOf signals
-  taken = by-test (leb (signals .count) 17)
-      (λ t. let h : signals .count ≤ 17 = leb-true (signals .count) 17 t in
-      let e : min (signals .count) 17 ≡ signals .count = omega arith in rw e)
-      (λ t. let h : 17 < signals .count = leb-false (signals .count) 17 t in
-      let e : min (signals .count) 17 ≡ 17 = omega arith in
-      rw (e, take-all 17 (signals .items) (omega arith), take-all (signals .count) (signals .items) (omega arith)))
+  taken : take (min (signals .count) signalsMost) (signals .items) ≡ signalsOf signals
+  taken = by-test (leb (signals .count) signalsMost)
+      (λ t. let h : signals .count ≤ signalsMost = leb-true (signals .count) signalsMost t in
+      let e : min (signals .count) signalsMost ≡ signals .count = omega arith in rw e)
+      (λ t. let h : signalsMost < signals .count = leb-false (signals .count) signalsMost t in
+      let e : min (signals .count) signalsMost ≡ signalsMost = omega arith in
+      rw (e, take-all signalsMost (signals .items) (omega arith), take-all (signals .count) (signals .items) (omega arith)))
 
   pub line-written : {why used k first second third end : ℕ} {before b1 b2 b3 after : List ℕ} → why < 256
-      → k ≡ min (signals .count) 17
+      → k ≡ min (signals .count) signalsMost
       → Puts (decimal why) before 0 first b1
       → Puts (decimal used) (set b1 first space) (first + 1) second b2
       → Puts (decimal k) (set b2 second space) (second + 1) third b3
@@ -78,7 +85,7 @@ module _ (signals : Signals) (long : length (signals .items) ≡ 17) where
       record { sized = omega arith; bytes = l .same; within = omega arith }
 
 -- in a buffer of outputMost bytes: the line, and then what stood behind it
-pub line-first : (why used : ℕ) (signals : Signals) (before : List ℕ) → why < 256 → length (signals .items) ≡ 17 → length before ≡ outputMost
+pub line-first : (why used : ℕ) (signals : Signals) (before : List ℕ) → why < 256 → length (signals .items) ≡ signalsMost → length before ≡ outputMost
     → sets before 0 (outputLine why used signals) ≡ outputLine why used signals ++ drop (length (outputLine why used signals)) before
 line-first why used signals before h l e =
     rw (sets-eq (outputLine why used signals) before 0 (omega (arith, output-fits why used signals h l)), zero-add)
@@ -101,7 +108,7 @@ pad-take zero (s ∷ ss) h = absurd (omega arith)
 pad-take (suc k) [] h = refl
 pad-take (suc k) (s ∷ ss) h = ap (λ l. s ∷ l) (pad-take k ss (omega arith))
 
--- the signals of a row are those that it was made of
-pub signals-of-row : (ss : List Signal) → length ss ≤ 17 → signalsOf (rowOf ss) ≡ ss
-unfolding rowOf
-signals-of-row ss h = pad-take 17 ss h
+-- the signals of a row are those that it was made of, so that its line is theirs
+pub row-output : (why used : ℕ) (ss : List Signal) → length ss ≤ signalsMost → outputLine why used (rowOf ss) ≡ outputOf why used ss ++ (newline ∷ [])
+unfolding outputLine rowOf
+row-output why used ss h = rw (pad-take signalsMost ss h)

@@ -7,13 +7,14 @@ use native.Mathlib.Numerals.{add-one}
 use lib.Dec.{lit≤}
 use lib.ListN.{length, getD, set, take, drop, length-append, length-drop, length-map}
 use lib.Seq.{sets, take-all, take-suc}
-use Rattle.trace_line.specs.Puts.{Puts, Converts, signalText}
+use Rattle.trace_line.specs.Puts.{Puts, Converts, signalText, digitsMost, nameMost, signalMost}
 use Rattle.rules.specs.declared.Name.{Name}
 use Rattle.rules.specs.declared.Name.the-variants as name
 use Rattle.rules.specs.declared.Signal.{Signal}
+use Rattle.rules.specs.Sizes.{signalsMost}
 use Rattle.rules.specs.Trace.{text, nameText, decimal, signalTexts}
 use Rattle.trace_line.specs.declared.Decimal.{Decimal}
-use Rattle.trace_line.proofs.Digits.{ten-digits}
+use Rattle.trace_line.proofs.Digits.{most-digits}
 use Rattle.trace_line.proofs.Loops.{drop-at, drop-done}
 
 sets-append : {A : Type 0} (l : List A) (at : ℕ) (xs ys : List A) → sets l at (xs ++ ys) ≡ sets (sets l at xs) (at + length xs) ys
@@ -54,11 +55,11 @@ module _ {text before : List ℕ} {at : ℕ} where
 -- ── a number, a name, a signal ──────────────────────────────────────────────────────────────────────────────────
 
 pub put-decimal : {n : ℕ} {d : Decimal} {before after : List ℕ} {at end : ℕ} → Converts n d
-    → Puts (take (10 - d .from) (drop (d .from) (d .bytes))) before at end after → Puts (decimal n) before at end after
+    → Puts (take (digitsMost - d .from) (drop (d .from) (d .bytes))) before at end after → Puts (decimal n) before at end after
 put-decimal {n} {d} p q =
-    rw (take-all (10 - d .from) (drop (d .from) (d .bytes)) (simp length-drop (omega arith)), p .same) at q
+    rw (take-all (digitsMost - d .from) (drop (d .from) (d .bytes)) (simp length-drop (omega arith)), p .same) at q
 
-pub name-most : (a : Name) → length (nameText a) ≤ 16
+pub name-most : (a : Name) → length (nameText a) ≤ nameMost
 unfolding nameText text
 name-most name.Nothing = lit≤ tt
 name-most name.Zero = lit≤ tt
@@ -73,9 +74,9 @@ name-most name.AnswerCommitted = lit≤ tt
 name-most name.AnswerAborted = lit≤ tt
 name-most name.AnswerNotYet = lit≤ tt
 
-pub signal-most : (s : Signal) → length (signalText s) ≤ 28
+pub signal-most : (s : Signal) → length (signalText s) ≤ signalMost
 unfolding signalText
-signal-most s = simp length-append (omega (arith, name-most (s .name), ten-digits 10 (s .number)))
+signal-most s = simp length-append (omega (arith, name-most (s .name), most-digits digitsMost (s .number)))
 
 -- an array's own length, from what owning it tells (`search long`)
 pub long : {X Y : Type 0} (g : X → Y) (l : List X) (n : ℕ) → length (map g l) ≡ n → length l ≡ n
@@ -88,19 +89,19 @@ unfolding signalTexts signalText
 one-more [] s = append-nil _
 one-more (x ∷ ss) s = rw (one-more ss s, append-assoc)
 
--- a loop that writes the first n items, each in at most 28 bytes, and has written i of them
+-- a loop that writes the first n items, each in at most signalMost bytes, and has written i of them
 pub record Sending (n : ℕ) (items : List Signal) (before : List ℕ) (from : ℕ) (buffer : List ℕ) (at i : ℕ) : Type 0 where
   pub within : i ≤ n
-  pub long : length items ≡ 17
-  pub few : at ≤ from + 28 * i
+  pub long : length items ≡ signalsMost
+  pub few : at ≤ from + signalMost * i
   pub puts : Puts (signalTexts (take i items)) before from at buffer
 
 module _ {n : ℕ} {items : List Signal} {before : List ℕ} {from : ℕ} where
-  pub sending-start : length items ≡ 17 → Sending n items before from before from 0
+  pub sending-start : length items ≡ signalsMost → Sending n items before from before from 0
   unfolding signalTexts
   sending-start h = record { within = omega arith; long = h; few = omega arith; puts = record { ends = omega arith; same = refl } }
 
-  pub sending-again : {buffer buffer′ : List ℕ} {at at′ i : ℕ} (d : Signal) → Sending n items before from buffer at i → i < n → n ≤ 17
+  pub sending-again : {buffer buffer′ : List ℕ} {at at′ i : ℕ} (d : Signal) → Sending n items before from buffer at i → i < n → n ≤ signalsMost
       → Puts (signalText (getD items i d)) buffer at at′ buffer′ → Sending n items before from buffer′ at′ (i + 1)
   sending-again {i = i} d p h l q =
       record {

@@ -5,11 +5,12 @@ ghost use mathlib.Core.Bool.{_&&_};
 ghost use mathlib.Core.List.{[], _∷_};
 ghost use Prim.Native.Nat.{_+_, _*_, _≤_, min};
 ghost use lib.ListN.{length, take};
+ghost use Rattle.rules.specs.Sizes.{signalsMost};
 ghost use Rattle.rules.specs.Identifiers.{sameBytes, zeroId};
 ghost use Rattle.rules.specs.Trace as Trace;
 ghost use Rattle.rules.specs.Trace.{words, wordsRead, readIf, ofTransaction, isIdentifierWord, identifierOf, twoWords, threeWords, voteLine, replyLine, askLine, enlistAs, enlistMarked, enlistLineMarked, decimal, nameText, signalTexts};
 ghost use Rattle.trace_line.specs.Words.{wordEnd, extendedOf, digitsValue, numeralOf, numberOf, identifierWordOf};
-ghost use Rattle.trace_line.specs.Puts.{Puts, Converts, signalText};
+ghost use Rattle.trace_line.specs.Puts.{Puts, Converts, signalText, digitsMost, nameMost, signalMost};
 ghost use Rattle.trace_line.specs.Lines.{Reads, Writes, outputMost};
 use rules::Act;
 use rules::Command;
@@ -31,8 +32,9 @@ use rules::sizes;
 // Stands for a word that is no number, since no line may name one so large.
 const NO_NUMBER: u64 = 4294967296;
 
-const LARGEST: u64 = 4294967295;
+const LARGEST: u64 = sizes::LARGEST_NUMBER as u64;
 
+// An identifier's last byte.
 const LARGEST_IDENTIFIER: u64 = 255;
 
 // What a word says where it names an enlistment's number; 0 where it can't be read.
@@ -466,17 +468,20 @@ pub fn read_line(line: &[u8]) -> Command
 // The length of the longest output line, its newline included.
 pub const OUTPUT: usize = 494;
 
+// Of the largest number.
+const DIGITS: usize = 10;
+
 // A number in decimal: what stands in bytes from `from` on.
 struct Decimal {
-    bytes: [u8; 10],
+    bytes: [u8; DIGITS],
     from: usize,
 }
 
 fn decimal_of(n: u32) -> Decimal
     ensures { λ result. ⌜ Converts n result ⌝ }
 {
-    let mut bytes = [0u8; 10];
-    let mut k: usize = 10;
+    let mut bytes = [0u8; DIGITS];
+    let mut k = DIGITS;
     let mut m = n;
     while 10 <= m {
         k -= 1;
@@ -501,7 +506,7 @@ fn put_text(buffer: &mut [u8; OUTPUT], at: usize, text: &[u8]) -> usize
 }
 
 fn put_number(buffer: &mut [u8; OUTPUT], at: usize, n: u32) -> usize
-    requires { ⌜ at + 10 ≤ outputMost ⌝ }
+    requires { ⌜ at + digitsMost ≤ outputMost ⌝ }
     ensures { λ end. ⌜ Puts (decimal n) (now (buffer .entry)) at end (now (buffer .exit)) ⌝ }
 {
     let d = decimal_of(n);
@@ -511,7 +516,7 @@ fn put_number(buffer: &mut [u8; OUTPUT], at: usize, n: u32) -> usize
 }
 
 fn put_name(buffer: &mut [u8; OUTPUT], at: usize, name: Name) -> usize
-    requires { ⌜ at + 16 ≤ outputMost ⌝ }
+    requires { ⌜ at + nameMost ≤ outputMost ⌝ }
     ensures { λ end. ⌜ Puts (nameText name) (now (buffer .entry)) at end (now (buffer .exit)) ⌝ }
 {
     match name {
@@ -530,9 +535,8 @@ fn put_name(buffer: &mut [u8; OUTPUT], at: usize, name: Name) -> usize
     }
 }
 
-// At most 28 bytes.
 fn put_signal(buffer: &mut [u8; OUTPUT], at: usize, signal: Signal) -> usize
-    requires { ⌜ at + 28 ≤ outputMost ⌝ }
+    requires { ⌜ at + signalMost ≤ outputMost ⌝ }
     ensures { λ end. ⌜ Puts (signalText signal) (now (buffer .entry)) at end (now (buffer .exit)) ⌝ }
 {
     buffer[at] = b' ';
@@ -542,8 +546,13 @@ fn put_signal(buffer: &mut [u8; OUTPUT], at: usize, signal: Signal) -> usize
     put_number(buffer, named + 1, signal.number)
 }
 
-fn put_signals(buffer: &mut [u8; OUTPUT], from: usize, items: [Signal; 17], n: usize) -> usize
-    requires { ⌜ (n ≤ 17) × (from + 28 * n ≤ outputMost) ⌝ }
+fn put_signals(
+    buffer: &mut [u8; OUTPUT],
+    from: usize,
+    items: [Signal; sizes::SIGNALS],
+    n: usize,
+) -> usize
+    requires { ⌜ (n ≤ signalsMost) × (from + signalMost * n ≤ outputMost) ⌝ }
     ensures { λ end. ⌜ Puts (signalTexts (take n items)) (now (buffer .entry)) from end (now (buffer .exit)) ⌝ }
 {
     let mut at = from;
@@ -557,10 +566,15 @@ fn put_signals(buffer: &mut [u8; OUTPUT], from: usize, items: [Signal; 17], n: u
 }
 
 // How many of the items are signals; a count above their number takes them all.
-fn signal_count(count: u8) -> u8
-    ensures { λ result. ⌜ result ≡ min count 17 ⌝ }
+fn signal_count(count: u8) -> usize
+    ensures { λ result. ⌜ result ≡ min count signalsMost ⌝ }
 {
-    if count <= 17 { count } else { 17 }
+    let n = count as usize;
+    if n <= sizes::SIGNALS {
+        n
+    } else {
+        sizes::SIGNALS
+    }
 }
 
 // A result to its output line, which is written at the start of the buffer, newline and all; gives its length.
@@ -574,7 +588,7 @@ pub fn write_line(refusal: u8, used: u32, signals: Signals, buffer: &mut [u8; OU
     let second = put_number(buffer, first + 1, used);
     buffer[second] = b' ';
     let third = put_number(buffer, second + 1, count as u32);
-    let end = put_signals(buffer, third, items, count as usize);
+    let end = put_signals(buffer, third, items, count);
     buffer[end] = b'\n';
     end + 1
 }

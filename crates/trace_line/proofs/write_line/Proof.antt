@@ -4,14 +4,16 @@ use native.Mathlib.Omega.{arith}
 use borrow.Author.Needs.{needs}
 use mathlib.Core.Path.{_≡_}
 use lib.ListN.{length}
+use Rattle.rules.specs.Sizes.{signalsMost}
+use Rattle.trace_line.specs.Puts.{digitsMost}
 use Rattle.trace_line.specs.Lines.{outputMost}
-use Rattle.trace_line.proofs.Digits.{few-digits, ten-digits}
+use Rattle.trace_line.proofs.Digits.{few-digits, most-digits}
 use Rattle.trace_line.proofs.Puts.{long}
 use Rattle.trace_line.proofs.Lines.{taken-most, line-written}
 use Rattle.trace_line.proofs.write_line.Statement.{statement}
 use Rattle.trace_line.proofs.write_line.Tie as tie
 
-items-long : (c : tie.Start) → length (c .args .signals .items) ≡ 17
+items-long : (c : tie.Start) → length (c .args .signals .items) ≡ signalsMost
 items-long c = search long
 
 -- the first three numbers and the spaces between them take at most 17 bytes
@@ -19,15 +21,15 @@ headed : (c : tie.After-put-number3) → c .put-number3 .result ≤ 17
 headed c =
     let s = c .before .before .before .before .before .before .before in
     let a = s .before .args in
-    let n : s .signal-count .result ≤ 17 = omega arith in
-    omega (arith, few-digits 10 2 (a .refusal) (omega arith), ten-digits 10 (a .used), few-digits 10 1 (s .signal-count .result) (omega arith))
+    let n : s .signal-count .result ≤ signalsMost = omega arith in
+    omega (arith, few-digits digitsMost 2 (a .refusal) (omega arith), most-digits digitsMost (a .used), few-digits digitsMost 1 (s .signal-count .result) (omega arith))
 
 -- one byte is left for the newline
 ended : (c : tie.After-put-signals) → c .put-signals .result < outputMost
 ended c =
     let b = c .before .before in
     let s = b .before .before .before .before .before .before .before in
-    let n : s .signal-count .result ≤ 17 = omega arith in
+    let n : s .signal-count .result ≤ signalsMost = omega arith in
     omega (arith, headed b, taken-most (s .signal-count .result) (s .before .args .signals .items))
 
 pub write-line-spec : {M : Type 1} → statement M
@@ -36,16 +38,15 @@ write-line-spec =
     (tie.spec
     (λ c κs. search needs)
     (λ c κs. search needs)
-    (λ c. omega (arith, few-digits 10 2 (c .before .before .before .before .args .refusal) (omega arith)))
-    (λ c. omega (arith, few-digits 10 2 (c .before .before .before .before .before .args .refusal) (omega arith)))
-    (λ c κs. omega (arith, few-digits 10 2 (c .before .before .before .before .before .args .refusal) (omega arith)))
-    (λ c. omega (arith, few-digits 10 2 (c .before .before .before .before .before .before .args .refusal) (omega arith), ten-digits 10 (c .before .before .before .before .before .before .args .used)))
-    (λ c. omega (arith, few-digits 10 2 (c .before .before .before .before .before .before .before .args .refusal) (omega arith), ten-digits 10 (c .before .before .before .before .before .before .before .args .used)))
+    (λ c. omega (arith, few-digits digitsMost 2 (c .before .before .before .before .args .refusal) (omega arith)))
+    (λ c. omega (arith, few-digits digitsMost 2 (c .before .before .before .before .before .args .refusal) (omega arith)))
+    (λ c κs. omega (arith, few-digits digitsMost 2 (c .before .before .before .before .before .args .refusal) (omega arith)))
+    (λ c. omega (arith, few-digits digitsMost 2 (c .before .before .before .before .before .before .args .refusal) (omega arith), most-digits digitsMost (c .before .before .before .before .before .before .args .used)))
+    (λ c. omega (arith, few-digits digitsMost 2 (c .before .before .before .before .before .before .before .args .refusal) (omega arith), most-digits digitsMost (c .before .before .before .before .before .before .before .args .used)))
     (λ c. search needs)
-    (λ c κs. omega (arith, few-digits 10 2 (c .before .before .before .before .before .before .before .args .refusal) (omega arith), ten-digits 10 (c .before .before .before .before .before .before .before .args .used)))
-    (λ c. search needs)
+    (λ c κs. omega (arith, few-digits digitsMost 2 (c .before .before .before .before .before .before .before .args .refusal) (omega arith), most-digits digitsMost (c .before .before .before .before .before .before .before .args .used)))
     (λ c κs.
-    let n : c .before .before .before .before .before .before .before .before .signal-count .result ≤ 17 = omega arith in
+    let n : c .before .before .before .before .before .before .before .before .signal-count .result ≤ signalsMost = omega arith in
     (n, omega (arith, headed (c .before))))
     (λ c. ended c)
     (λ c. omega (arith, ended c))
