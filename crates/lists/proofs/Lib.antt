@@ -1,3 +1,4 @@
 pub mod Tests
 pub mod Sorting
 pub mod Places
+pub mod Says

@@ -3,9 +3,9 @@ use Prim.Native.Nat.{ℕ, zero, suc, _≤_}
 use native.Mathlib.Omega.{arith}
 use mathlib.Core.Path.{_≡_, refl, sym, _∙_, ap, subst}
 use mathlib.Core.Logic.{_⊎_, inl, inr}
-use mathlib.Core.Bool.{Bool, true, false, not, _&&_, _||_, true≢false, false≢true}
-use mathlib.Core.List.{List, [], _∷_, _++_, map, List·Memᴰ·head, List·Memᴰ·tail, List·Memᴰ·cases-cons, List·Memᴰ·not-nil, Memᴰ·map, Memᴰ·of-map}
-use lib.ListN.{length, getD}
+use mathlib.Core.Bool.{Bool, true, false, cond, not, _&&_, _||_, true≢false, false≢true}
+use mathlib.Core.List.{List, [], _∷_, _++_, map, List·Memᴰ·head, List·Memᴰ·tail, List·Memᴰ·cases-cons, List·Memᴰ·not-nil, Memᴰ·map, Memᴰ·of-map, Memᴰ·append-left, Memᴰ·append-right}
+use lib.ListN.{length, getD, take, drop, take-append-drop}
 use Rattle.lists.specs.Lists.{all, any, none, filter, count, firstOr, differ, every}
 use Rattle.lists.specs.Members.{_∈_, Each, Some, Apart, nothing, more}
 
@@ -15,6 +15,11 @@ use Rattle.lists.specs.Members.{_∈_, Each, Some, Apart, nothing, more}
 pub by-test : {C : Type 0} (b : Bool) → (b ≡ true → C) → (b ≡ false → C) → C
 by-test true f g = f refl
 by-test false f g = g refl
+
+-- what holds of both, holds of the one that is chosen
+pub by-cond : {A : Type 0} (P : A → Type 0) (b : Bool) {x y : A} → P x → P y → P (cond b x y)
+by-cond P true p q = p
+by-cond P false p q = q
 
 pub by-either : {A B C : Type 0} → (A → C) → (B → C) → A ⊎ B → C
 by-either f g (inl a) = f a
@@ -96,6 +101,12 @@ module _ {A : Type 0} where
 
   pub each-rest : {P : A → Type 0} {x : A} {xs : List A} → Each P (x ∷ xs) → Each P xs
   each-rest h y m = h y (List·Memᴰ·tail m)
+
+  pub each-take : {P : A → Type 0} (n : ℕ) {xs : List A} → Each P xs → Each P (take n xs)
+  each-take n {xs} h x m = h x (subst (λ l. x ∈ l) (take-append-drop n xs) (Memᴰ·append-left (drop n xs) m))
+
+  pub each-drop : {P : A → Type 0} (n : ℕ) {xs : List A} → Each P xs → Each P (drop n xs)
+  each-drop n {xs} h x m = h x (subst (λ l. x ∈ l) (take-append-drop n xs) (Memᴰ·append-right (take n xs) m))
 
   pub some-here : {P : A → Type 0} {x : A} {xs : List A} → P x → Some P (x ∷ xs)
   some-here {x = x} p = record { it = x; there = List·Memᴰ·head refl; holds = p }

@@ -1,10 +1,10 @@
 -- A number of 32 bits and its four bytes, low first, are each other's: a number is its rest by 256 and 256 times its quotient.
-use Prim.Native.Nat.{ℕ, _+_, _*_, _/_, _%_, _≤_, _<_}
+use Prim.Native.Nat.{ℕ, zero, suc, _+_, _*_, _/_, _%_, _≤_, _<_}
 use native.Mathlib.Omega.{arith}
 use native.Mathlib.Nat.{div-div-eq-div-mul, div-add-mod, mod-lt, mod-eq-of-lt}
 use mathlib.Core.Path.{_≡_, refl, sym, _∙_, ap}
 use mathlib.Core.List.{List, [], _∷_}
-use lib.ListN.{length}
+use lib.ListN.{length, getD}
 use Rattle.lists.specs.Members.{Each}
 use Rattle.lists.proofs.Tests.{each-head, each-rest}
 use Rattle.rules.specs.Sizes.{largestNumber}
@@ -22,6 +22,14 @@ number-of-low n h = join n (n / 256) (n / 65536) (n / 16777216) (n % 256) (n / 2
     (rw (div-div-eq-div-mul n 256 256) at (div-add-mod (n / 256) 256))
     (rw (div-div-eq-div-mul n 65536 256) at (div-add-mod (n / 65536) 256))
     (mod-eq-of-lt (omega arith))
+
+byte-at : (i : ℕ) (bs : List ℕ) → Each (λ b. b < 256) bs → getD bs i 0 < 256
+byte-at i [] h = omega arith
+byte-at zero (b ∷ bs) h = each-head h
+byte-at (suc i) (b ∷ bs) h = byte-at i bs (each-rest h)
+
+pub number-small : (bs : List ℕ) → Each (λ b. b < 256) bs → number4 bs ≤ largestNumber
+number-small bs h = omega (arith, byte-at 0 bs h, byte-at 1 bs h, byte-at 2 bs h, byte-at 3 bs h)
 
 -- ── the bytes of the bytes' number ──────────────────────────────────────────────────────────────────────────────
 
