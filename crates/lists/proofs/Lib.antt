@@ -1,4 +1,5 @@
 pub mod Tests
 pub mod Sorting
 pub mod Places
+pub mod Loops
 pub mod Says

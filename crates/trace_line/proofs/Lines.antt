@@ -12,13 +12,12 @@ use borrow.Author.Tests.{leb-true, leb-false}
 use Rattle.lists.proofs.Tests.{by-test}
 use Rattle.rules.specs.declared.Signal.{Signal}
 use Rattle.rules.specs.declared.Signals.{Signals}
-use Rattle.rules.specs.declared.Command.{Command}
 use Rattle.rules.specs.declared.Name.the-variants as name
 use Rattle.rules.specs.Sizes.{signalsMost, largestNumber}
 use Rattle.rules.specs.Signals.{signal, padded, rowOf}
 use Rattle.rules.specs.Trace.{space, text, nameText, digits, decimal, signalTexts, outputOf}
 use Rattle.trace_line.specs.Puts.{Puts, signalText, digitsMost, signalMost}
-use Rattle.trace_line.specs.Lines.{Reads, Writes, signalsOf, newline, outputLine, outputMost}
+use Rattle.trace_line.specs.Promises.{IsWriting, signalsOf, newline, outputLine, outputMost}
 use Rattle.trace_line.proofs.Digits.{few-digits, most-digits}
 use Rattle.trace_line.proofs.Puts.{put-both, put-byte, signal-most}
 
@@ -74,7 +73,7 @@ module _ (signals : Signals) (long : length (signals .items) ≡ signalsMost) wh
       → Puts (decimal used) (set b1 first space) (first + 1) second b2
       → Puts (decimal k) (set b2 second space) (second + 1) third b3
       → Puts (signalTexts (take k (signals .items))) b3 third end after
-      → Writes why used signals before (end + 1) (set after end newline)
+      → IsWriting why used signals before (end + 1) (set after end newline)
   unfolding outputLine outputOf
   line-written {why} {used} {k} {first} {second} {third} {end} {before} {b1} {b2} {b3} {after} h e p q r t =
       let r′ : Puts (decimal (length (signalsOf signals))) (set b2 second space) (second + 1) third b3 = rw (e, counted) at r in
@@ -89,15 +88,6 @@ pub line-first : (why used : ℕ) (signals : Signals) (before : List ℕ) → wh
     → sets before 0 (outputLine why used signals) ≡ outputLine why used signals ++ drop (length (outputLine why used signals)) before
 line-first why used signals before h l e =
     rw (sets-eq (outputLine why used signals) before 0 (omega (arith, output-fits why used signals h l)), zero-add)
-
--- ── two results coincide ────────────────────────────────────────────────────────────────────────────────────────
-
-pub reads-alike : (line : List ℕ) (a b : Command) → Reads line a → Reads line b → a ≡ b
-reads-alike line a b p q = p ∙ sym q
-
-pub writes-alike : (why used : ℕ) (signals : Signals) (before : List ℕ) (m n : ℕ) (a b : List ℕ)
-    → Writes why used signals before m a → Writes why used signals before n b → (m ≡ n) × (a ≡ b)
-writes-alike why used signals before m n a b p q = (p .sized ∙ sym (q .sized), p .bytes ∙ sym (q .bytes))
 
 -- ── signals as an answer holds them ─────────────────────────────────────────────────────────────────────────────
 

@@ -2,10 +2,10 @@
 use Prim.Native.Nat.{ℕ, suc, _+_, _-_, _*_, _≤_, _<_}
 use native.Mathlib.Omega.{arith}
 use mathlib.Core.Path.{_≡_, refl, _∙_}
-use mathlib.Core.List.{List, [], _∷_, _++_, map, append-assoc, append-nil}
+use mathlib.Core.List.{List, [], _∷_, _++_, append-assoc, append-nil}
 use native.Mathlib.Numerals.{add-one}
 use lib.Dec.{lit≤}
-use lib.ListN.{length, getD, set, take, drop, length-append, length-drop, length-map}
+use lib.ListN.{length, getD, set, take, drop, length-append, length-drop}
 use lib.Seq.{sets, take-all, take-suc}
 use Rattle.trace_line.specs.Puts.{Puts, Converts, signalText, digitsMost, nameMost, signalMost}
 use Rattle.rules.specs.declared.Name.{Name}
@@ -15,7 +15,7 @@ use Rattle.rules.specs.Sizes.{signalsMost}
 use Rattle.rules.specs.Trace.{text, nameText, decimal, signalTexts}
 use Rattle.trace_line.specs.declared.Decimal.{Decimal}
 use Rattle.trace_line.proofs.Digits.{most-digits}
-use Rattle.trace_line.proofs.Loops.{drop-at, drop-done}
+use Rattle.lists.proofs.Loops.{drop-at, drop-done}
 
 sets-append : {A : Type 0} (l : List A) (at : ℕ) (xs ys : List A) → sets l at (xs ++ ys) ≡ sets (sets l at xs) (at + length xs) ys
 sets-append l at [] ys = let e : at + 0 ≡ at = omega arith in rw e
@@ -77,10 +77,6 @@ name-most name.AnswerNotYet = lit≤ tt
 pub signal-most : (s : Signal) → length (signalText s) ≤ signalMost
 unfolding signalText
 signal-most s = simp length-append (omega (arith, name-most (s .name), most-digits digitsMost (s .number)))
-
--- an array's own length, from what owning it tells (`search long`)
-pub long : {X Y : Type 0} (g : X → Y) (l : List X) (n : ℕ) → length (map g l) ≡ n → length l ≡ n
-long g l n e = rw length-map at e
 
 -- ── signals ─────────────────────────────────────────────────────────────────────────────────────────────────────
 

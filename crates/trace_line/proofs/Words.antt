@@ -14,7 +14,7 @@ use mathlib.Core.Logic.{inr}
 use Rattle.rules.specs.Sizes.{largestNumber}
 use Rattle.rules.specs.Identifiers.{sameBytes, zeroId}
 use Rattle.rules.specs.Trace.{words, space, digitZero, isDigit, valueFrom, valueOf, isNumeral, isNumberWord, isIdentifierWord}
-use Rattle.trace_line.proofs.Loops.{drop-at, drop-done}
+use Rattle.lists.proofs.Loops.{drop-at, drop-done}
 use Rattle.trace_line.specs.Words.{wordEnd, noNumber, extendedOf, digitsValue, numeralOf, numberOf, identifierWordOf}
 
 -- ── the words of a line ─────────────────────────────────────────────────────────────────────────────────────────

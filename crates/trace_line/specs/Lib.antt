@@ -1,3 +1,3 @@
 pub mod Words
 pub mod Puts
-pub mod Lines
+pub mod Promises

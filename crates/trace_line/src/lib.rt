@@ -11,7 +11,7 @@ ghost use Rattle.rules.specs.Trace as Trace;
 ghost use Rattle.rules.specs.Trace.{words, wordsRead, readIf, ofTransaction, isIdentifierWord, identifierOf, twoWords, threeWords, voteLine, replyLine, askLine, enlistAs, enlistMarked, enlistLineMarked, decimal, nameText, signalTexts};
 ghost use Rattle.trace_line.specs.Words.{wordEnd, extendedOf, digitsValue, numeralOf, numberOf, identifierWordOf};
 ghost use Rattle.trace_line.specs.Puts.{Puts, Converts, signalText, digitsMost, nameMost, signalMost};
-ghost use Rattle.trace_line.specs.Lines.{Reads, Writes, outputMost};
+ghost use Rattle.trace_line.specs.Promises.{IsReading, IsWriting, outputMost};
 use rules::Act;
 use rules::Command;
 use rules::Event;
@@ -450,7 +450,7 @@ fn after_one<'a>(w: &'a [u8], rest: &'a [u8]) -> Command
 
 // A line, without its newline, to the command that it is; Unreadable stands for refusal 16.
 pub fn read_line(line: &[u8]) -> Command
-    ensures { λ command. ⌜ Reads (now (line .entry)) command ⌝ }
+    ensures { λ command. ⌜ IsReading (now (line .entry)) command ⌝ }
 {
     if sizes::LINE < line.len() {
         return unreadable();
@@ -579,7 +579,7 @@ fn signal_count(count: u8) -> usize
 
 // A result to its output line, which is written at the start of the buffer, newline and all; gives its length.
 pub fn write_line(refusal: u8, used: u32, signals: Signals, buffer: &mut [u8; OUTPUT]) -> usize
-    ensures { λ size. ⌜ Writes refusal used signals (now (buffer .entry)) size (now (buffer .exit)) ⌝ }
+    ensures { λ size. ⌜ IsWriting refusal used signals (now (buffer .entry)) size (now (buffer .exit)) ⌝ }
 {
     let count = signal_count(signals.count);
     let items = signals.items;

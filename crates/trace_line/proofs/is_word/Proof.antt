@@ -5,7 +5,7 @@ use borrow.Author.Needs.{needs}
 use denote.Ref.{now}
 use lib.ListN.{length}
 use Rattle.rules.specs.Identifiers.{sameBytes}
-use Rattle.trace_line.proofs.Loops.{Paired, pair-start, pair-next, pair-stop, pair-done}
+use Rattle.lists.proofs.Loops.{Paired, pair-start, pair-next, pair-stop, pair-done}
 use Rattle.trace_line.proofs.Words.{other-length}
 use Rattle.trace_line.proofs.is_word.Statement.{statement}
 use Rattle.trace_line.proofs.is_word.Tie as tie

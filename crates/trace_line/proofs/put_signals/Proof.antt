@@ -1,7 +1,8 @@
 -- The signals that were written, and one more behind them, are the next signals written.
 use borrow.Author.Needs.{needs}
+use Rattle.lists.proofs.Loops.{long}
 use Prim.Native.Nat.{_-_}
-use Rattle.trace_line.proofs.Puts.{Sending, sending-start, sending-again, sending-done, long}
+use Rattle.trace_line.proofs.Puts.{Sending, sending-start, sending-again, sending-done}
 use Rattle.rules.specs.Signals.{noSignal}
 use Rattle.trace_line.proofs.put_signals.Statement.{statement}
 use Rattle.trace_line.proofs.put_signals.Tie as tie

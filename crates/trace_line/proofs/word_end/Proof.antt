@@ -5,7 +5,7 @@ use native.Mathlib.Omega.{arith}
 use borrow.Author.Needs.{needs}
 use lib.ListN.{length}
 use Rattle.trace_line.specs.Words.{wordEnd}
-use Rattle.trace_line.proofs.Loops.{Looked, look-start, look-next, look-stop, look-done}
+use Rattle.lists.proofs.Loops.{Looked, look-start, look-next, look-stop, look-done}
 use Rattle.trace_line.proofs.word_end.Statement.{statement}
 use Rattle.trace_line.proofs.word_end.Tie as tie
 

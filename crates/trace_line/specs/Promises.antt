@@ -1,4 +1,4 @@
--- The contracts of the two public functions, and what of them the definitions of rules leave open.
+-- What the two public functions promise, and what of it the definitions of rules leave open.
 use Prim.Native.Nat.{ℕ, _≤_}
 use mathlib.Core.Path.{_≡_}
 use mathlib.Core.List.{List, [], _∷_, _++_}
@@ -10,8 +10,8 @@ use Rattle.rules.specs.declared.Signals.{Signals}
 use Rattle.rules.specs.Trace.{commandOf, outputOf}
 
 -- a line, without its newline, is read as this command
-abbrev pub Reads : List ℕ → Command → Type 0
-Reads line command = command ≡ commandOf line
+abbrev pub IsReading : List ℕ → Command → Type 0
+IsReading line command = command ≡ commandOf line
 
 -- the first count of the items are the signals; a count above the number of items takes all of them
 abbrev pub signalsOf : Signals → List Signal
@@ -29,7 +29,7 @@ abbrev pub outputMost : ℕ
 outputMost = 494
 
 -- the line stands at the start of the lent buffer, and nothing behind it is changed
-pub record Writes (why used : ℕ) (signals : Signals) (before : List ℕ) (size : ℕ) (after : List ℕ) : Type 0 where
+pub record IsWriting (why used : ℕ) (signals : Signals) (before : List ℕ) (size : ℕ) (after : List ℕ) : Type 0 where
   pub sized : size ≡ length (outputLine why used signals)
   pub bytes : after ≡ sets before 0 (outputLine why used signals)
   -- follows from the first, and lets a caller take these bytes of the buffer
