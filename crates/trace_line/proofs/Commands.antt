@@ -1,0 +1,70 @@
+-- A command that is made of what was read of its words, and given only where all of them could be read, is the command of the words themselves:
+-- where they can be read, what was read is what they say, and where not, it is not looked at.
+use Prim.Native.Nat.{ℕ}
+use mathlib.Core.Path.{_≡_, refl, sym, _∙_}
+use mathlib.Core.Bool.{Bool, true, false, cond, _&&_}
+use mathlib.Core.List.{List}
+use Rattle.rules.specs.declared.Act.{Act}
+use Rattle.rules.specs.declared.Act.the-variants as act
+use Rattle.rules.specs.declared.Kind.{Kind}
+use Rattle.rules.specs.declared.Mark.{Mark}
+use Rattle.rules.specs.declared.Order.the-variants as order
+use Rattle.rules.specs.declared.Command.{Command}
+use Rattle.rules.specs.Identifiers.{zeroId}
+use Rattle.rules.specs.Trace.{ordered, readIf, isIdentifierWord, identifierOf, isNumberWord, valueOf, ofTransaction, ofNumber, askLine, enlistAs}
+use Rattle.trace_line.specs.declared.Number.{Number}
+use Rattle.trace_line.specs.declared.Identifier.{Identifier}
+use Rattle.trace_line.specs.Words.{numberOf, identifierWordOf}
+
+-- a test that was made by a call
+pub told : {a b v : Bool} → a ≡ b → a ≡ v → b ≡ v
+told e f = sym e ∙ f
+
+module _ {A : Type 0} where
+  once : {B : Type 0} (b : Bool) (v d : A) (f : A → B) (u : B) → cond b (f (cond b v d)) u ≡ cond b (f v) u
+  once true v d f u = refl
+  once false v d f u = refl
+
+pub transaction-read : {i : Identifier} {c : Command} (a : Act) (t : List ℕ) → i ≡ identifierWordOf t
+    → c ≡ readIf (i .readable) (ordered order.Step a (i .bytes) zeroId) → c ≡ ofTransaction a t
+unfolding identifierWordOf
+transaction-read a t e q = q ∙ rw e (once (isIdentifierWord t) (identifierOf t) zeroId (λ x. ordered order.Step a x zeroId) _)
+
+pub manager-read : {i : Identifier} {c : Command} (r : List ℕ) → i ≡ identifierWordOf r
+    → c ≡ readIf (i .readable) (ordered order.Step act.Reenlisted zeroId (i .bytes))
+    → c ≡ readIf (isIdentifierWord r) (ordered order.Step act.Reenlisted zeroId (identifierOf r))
+unfolding identifierWordOf
+manager-read r e q = q ∙ rw e (once (isIdentifierWord r) (identifierOf r) zeroId (λ x. ordered order.Step act.Reenlisted zeroId x) _)
+
+pub number-used : {k : Number} {c : Command} (a : ℕ → Act) (n : List ℕ) → k ≡ numberOf n
+    → c ≡ readIf (k .readable) (ordered order.Step (a (k .value)) zeroId zeroId) → c ≡ ofNumber a n
+unfolding numberOf
+number-used a n e q = q ∙ rw e (once (isNumberWord n) (valueOf n) 0 (λ x. ordered order.Step (a x) zeroId zeroId) _)
+
+once-each : {A B C : Type 0} (p q : Bool) (v d : A) (w e : B) (f : A → B → C) (u : C)
+    → cond (p && q) (f (cond p v d) (cond q w e)) u ≡ cond (p && q) (f v w) u
+once-each true true v d w e f u = refl
+once-each true false v d w e f u = refl
+once-each false q v d w e f u = refl
+
+pub ask-read : {i j : Identifier} {b : Bool} {c : Command} (t r : List ℕ) → i ≡ identifierWordOf t → j ≡ identifierWordOf r → b ≡ (i .readable && j .readable)
+    → c ≡ readIf b (ordered order.Step act.Ask (i .bytes) (j .bytes)) → c ≡ askLine t r
+unfolding identifierWordOf
+ask-read t r e g h q =
+    q ∙ rw (h, e, g) (once-each (isIdentifierWord t) (isIdentifierWord r) (identifierOf t) zeroId (identifierOf r) zeroId (ordered order.Step act.Ask) _)
+
+once-all : {A B C D : Type 0} (p q r : Bool) (v d : A) (w e : B) (x g : C) (f : A → B → C → D) (u : D)
+    → cond (p && q && r) (f (cond p v d) (cond q w e) (cond r x g)) u ≡ cond (p && q && r) (f v w x) u
+once-all true true true v d w e x g f u = refl
+once-all true true false v d w e x g f u = refl
+once-all true false r v d w e x g f u = refl
+once-all false q r v d w e x g f u = refl
+
+pub enlist-read : {i j : Identifier} {k : Number} {b b′ : Bool} {c : Command} (t n r : List ℕ) (kind : Kind) (mark : Mark)
+    → i ≡ identifierWordOf t → k ≡ numberOf n → j ≡ identifierWordOf r → b ≡ (i .readable && k .readable) → b′ ≡ (b && j .readable)
+    → c ≡ readIf b′ (ordered order.Step (act.Enlist (k .value) kind mark) (i .bytes) (j .bytes)) → c ≡ enlistAs t n r kind mark
+unfolding identifierWordOf numberOf
+enlist-read t n r kind mark e f g h h′ q =
+    q ∙ rw (h′, h, e, f, g)
+    (once-all (isIdentifierWord t) (isNumberWord n) (isIdentifierWord r) (identifierOf t) zeroId (valueOf n) 0 (identifierOf r) zeroId
+    (λ x y z. ordered order.Step (act.Enlist y kind mark) x z) _)
