@@ -92,9 +92,12 @@ module _ (tb : Table) (e : Event) (log : List ℕ) (s : Sound tb) (y : Typed e) 
 pub used-grows : (tb : Table) (e : Event) (log : List ℕ) → tb .used ≤ stepOf tb e log .table .used
 used-grows tb e log = by-step (λ s. tb .used ≤ s .table .used) tb e log (λ fine. omega (arith, writes (e .act) (e .tx .0) (e .rm .0) tb log .used)) (λ why. omega arith)
 
--- and at most 17 signals, of a sound one.
-pub step-few-signals : (tb : Table) (e : Event) (log : List ℕ) → Sound tb → length (stepOf tb e log .signals) ≤ signalsMost
-step-few-signals tb e log s = by-step (λ s. length (s .signals) ≤ signalsMost) tb e log (λ fine. signals-few tb e log fine s) (λ why. omega arith)
+-- and at most 17 signals: of a table that is not sound the step is refused.
+pub step-few-signals : (tb : Table) (e : Event) (log : List ℕ) → length (stepOf tb e log .signals) ≤ signalsMost
+step-few-signals tb e log =
+    by-step (λ s. length (s .signals) ≤ signalsMost) tb e log
+    (λ fine. signals-few tb e log fine (sound-sentences tb (accepted tb e (length log) fine .sound)))
+    (λ why. omega arith)
 
 -- ── a coordinator that starts sound ─────────────────────────────────────────────────────────────────────────────
 

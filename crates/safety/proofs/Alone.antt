@@ -14,7 +14,8 @@ use Rattle.rules.specs.Sound.{In, Durable}
 use Rattle.rules.specs.Log.{Entry}
 use Rattle.safety.specs.World.{Note, Message, Issued}
 use Rattle.safety.specs.Host.{MayAsk}
-use Rattle.safety.specs.Demand3.{Committed, Aborted, About, Votes, VotedYes, AllVotedYes, OnlyOneCommitted}
+use Rattle.rules.specs.Signals.{Committed, Aborted}
+use Rattle.safety.specs.Demand3.{About, Votes, VotedYes, AllVotedYes, OnlyOneCommitted}
 
 -- ── the story of the transaction in a log ───────────────────────────────────────────────────────────────────────
 

@@ -32,14 +32,14 @@ use Rattle.rules.specs.Identifiers.{Id}
 use Rattle.rules.specs.Table.{noTransaction, noEnlistment, isLive, isFree, isNamed, placeNamed, transactionAt, stateAt, isVacant, heldBy, held, isPhaseZero, isIn, inState, withTransactions, withEnlistments, changeHeld, changeTransaction, goTo}
 use Rattle.rules.specs.Sound.{Sound, Durable}
 use Rattle.rules.specs.Log.{allBytes}
-use Rattle.rules.specs.Signals.{signal, toEach}
+use Rattle.rules.specs.Signals.{signal, toEach, Committed}
 use Rattle.rules.specs.Events.{quietly, saying, abortOf, beginOf, kindOf, zeroAtOnce, newEnlistment, enlistOf, zeroedOf, commitOf, isUndone, isOver, toldAgain, askOf}
 use Rattle.rules.proofs.Identifiers.{same-refl}
 use Rattle.rules.proofs.Records.{Valid}
 use Rattle.rules.proofs.Frames.{Keeps, of-held, in-held, held-came, held-own, held-transaction, named-is, named-other, named-found, none-absent, Stands, Absent, at-own, at-other, place-kept}
 use Rattle.safety.specs.World.{Note, told, messageOf}
 use Rattle.safety.specs.Host.{Prepares, MayAsk}
-use Rattle.safety.specs.Demand3.{Committed, Votes}
+use Rattle.safety.specs.Demand3.{Votes}
 use Rattle.safety.proofs.Alone as alone
 use Rattle.safety.proofs.Alone.{Story, early, Waits, Unasked}
 use Rattle.safety.proofs.Move.{d-early, d-aborting, g-aborting, Move, stay, begin, gather, abort, told-on, answer-out}

@@ -12,7 +12,7 @@ use Rattle.rules.specs.Log.{Entry}
 use Rattle.rules.specs.Sound.{Durable}
 use Rattle.safety.specs.World.{Note, Message, Issued}
 use Rattle.safety.specs.Host.{MayAsk}
-use Rattle.safety.specs.Demand3.{Committed, Aborted}
+use Rattle.rules.specs.Signals.{Committed, Aborted}
 use Rattle.safety.proofs.Alone.{Story, none, open-with, closed, bad, Below, below-refl, Logged, logged-up, fine-down, View, out, early, voting, single, committing, aborting, Waits, managersOf, Entered, NoAsk, AsksIn, Any, Base, Undecided, Shape}
 
 -- What a restart makes of a story

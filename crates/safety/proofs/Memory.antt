@@ -14,13 +14,13 @@ use Rattle.rules.specs.TransactionState as transaction
 use Rattle.rules.specs.Identifiers.{Id}
 use Rattle.rules.specs.Table.{placeNamed, stateAt, held}
 use Rattle.rules.specs.Sound.{soundOf}
-use Rattle.rules.specs.Signals.{signal}
+use Rattle.rules.specs.Signals.{signal, Committed}
 use Rattle.rules.specs.Events.{acted, askOf}
 use Rattle.rules.specs.Step.{stepOf}
 use Rattle.rules.proofs.Refused.{step-done, step-refusal}
 use Rattle.safety.specs.World.{Note, Message, Issued, usedPart}
 use Rattle.safety.specs.Host.{MayAsk}
-use Rattle.safety.specs.Demand3.{Committed, About}
+use Rattle.safety.specs.Demand3.{About}
 use Rattle.safety.specs.Beyond.{Remembers, Remembered, AnsweredCommitted, ReconnectAnswered}
 use Rattle.safety.proofs.Alone.{Story, View, out, early, voting, single, committing, aborting, Waits, Shape}
 use Rattle.safety.proofs.Top.{Inv, inv}

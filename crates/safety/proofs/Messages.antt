@@ -17,9 +17,8 @@ use Rattle.rules.specs.declared.Name.{Name}
 use Rattle.rules.specs.declared.Name.the-variants as name
 use Rattle.rules.specs.declared.Signal.{Signal}
 use Rattle.rules.specs.Identifiers.{Id}
-use Rattle.rules.specs.Signals.{byNumber, signal, toEach}
+use Rattle.rules.specs.Signals.{byNumber, signal, toEach, Committed, Aborted}
 use Rattle.safety.specs.World.{Message, ownerOf, subjectOf, messageOf}
-use Rattle.safety.specs.Demand3.{Committed, Aborted}
 use Rattle.safety.proofs.Alone.{New}
 use Rattle.safety.proofs.Move.{Quiet}
 

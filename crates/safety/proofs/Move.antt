@@ -17,7 +17,8 @@ use Rattle.rules.specs.Sound.{Durable}
 use Rattle.rules.specs.Log.{Entry}
 use Rattle.safety.specs.World.{Note, Message, Issued, issue}
 use Rattle.safety.specs.Host.{Prepares, Closes, MayAsk, now, still}
-use Rattle.safety.specs.Demand3.{Committed, Aborted, About, Votes, Yes, VotedYes, AllVotedYes}
+use Rattle.rules.specs.Signals.{Committed, Aborted}
+use Rattle.safety.specs.Demand3.{About, Votes, Yes, VotedYes, AllVotedYes}
 use Rattle.safety.proofs.Alone.{Story, none, open-with, closed, bad, Below, below-refl, below-trans, Logged, View, out, early, voting, single, committing, aborting, Hopes, Waits, Unasked, Preparing, NoDurable, managersOf, Entered, Begun, NoAsk, Good, AsksIn, New, Any, Base, Undecided, Shape, ShapeVoting, ShapeCommitting}
 
 module _ (t : Id) where

@@ -21,7 +21,8 @@ use Rattle.rules.proofs.Computing.{computing}
 use Rattle.safety.specs.World.{Note, Issued, World, told, messageOf, empty, afterStep, withDisk, afterLeaving, afterRestart}
 use Rattle.safety.specs.Host.{Makes, now}
 use Rattle.safety.specs.Run.{Run, start, step, store, leave, restart}
-use Rattle.safety.specs.Demand3.{Committed, Aborted, About, Safe}
+use Rattle.rules.specs.Signals.{Committed, Aborted}
+use Rattle.safety.specs.Demand3.{About, Safe}
 use Rattle.safety.specs.Premises.{Breaks, beginsAgain, asksAnyTime, handsAny, givesAny, losesBytes, sendsAtOnce, doesNotTrim}
 use Rattle.safety.specs.Words.{id, begin, enlist, commit, rollback, votes, ack, ask, spare}
 

@@ -16,7 +16,8 @@ use Rattle.rules.proofs.Computing.{computing}
 use Rattle.safety.specs.World.{Issued, World, told, messageOf, usedPart, empty, afterStep, withDisk, afterLeaving, afterRestart}
 use Rattle.safety.specs.Host.{careful, Makes, now}
 use Rattle.safety.specs.Run.{Run, start, step, store, trim, leave, restart}
-use Rattle.safety.specs.Demand3.{Committed, Aborted, About}
+use Rattle.rules.specs.Signals.{Committed, Aborted}
+use Rattle.safety.specs.Demand3.{About}
 use Rattle.safety.specs.Words.{id, begin, enlist, enlistSingle, commit, rollback, votes, replies, ask, spare}
 
 -- ── the moves of the careful host ───────────────────────────────────────────────────────────────────────────────

@@ -22,7 +22,8 @@ use Rattle.rules.specs.Restart.{Restart, restartOf}
 use Rattle.safety.specs.World.{Note, Message, Issued, World, noteOf, messageOf, usedPart, empty, afterStep, withDisk, afterLeaving, afterRestart}
 use Rattle.safety.specs.Host.{MayAsk, careful, Makes, MoreStored, Trimmed}
 use Rattle.safety.specs.Run.{Run, start, step, store, trim, leave, restart}
-use Rattle.safety.specs.Demand3.{Committed, Aborted, Safe, Demand3}
+use Rattle.rules.specs.Signals.{Committed, Aborted}
+use Rattle.safety.specs.Demand3.{Safe, Demand3}
 use Rattle.safety.proofs.Alone.{Story, none, open-with, bad, Below, below-trans, below-both, View, out, early, voting, single, committing, aborting, NoDurable, Entered, Any, Base, Shape}
 use Rattle.safety.proofs.Move.{Calm, Quiet, Move, keep-base, keep-shape, make-stay, stay-shape}
 use Rattle.safety.proofs.Cut.{Restored, keep-store, keep-leave, shape-leave, keep-restart, shape-restart}

@@ -16,13 +16,13 @@ use Rattle.rules.specs.EnlistmentState as enlistment
 use Rattle.rules.specs.Identifiers.{Id}
 use Rattle.rules.specs.Table.{placeNamed, stateAt, held}
 use Rattle.rules.specs.Sound.{In, Durable, soundOf}
-use Rattle.rules.specs.Signals.{signal}
+use Rattle.rules.specs.Signals.{signal, Committed}
 use Rattle.rules.specs.Step.{stepOf}
 use Rattle.rules.specs.Restart.{restartOf}
 use Rattle.safety.specs.World.{World, usedPart}
 use Rattle.safety.specs.Host.{MayAsk, WholeStored, careful}
 use Rattle.safety.specs.Run.{Run}
-use Rattle.safety.specs.Demand3.{Committed, About}
+use Rattle.safety.specs.Demand3.{About}
 
 -- ── no bricking ─────────────────────────────────────────────────────────────────────────────────────────────────
 

@@ -10,17 +10,11 @@ use Rattle.rules.specs.declared.Reply.the-variants as reply
 use Rattle.rules.specs.declared.Name.{Name}
 use Rattle.rules.specs.declared.Name.the-variants as name
 use Rattle.rules.specs.Kinds as kind
+use Rattle.rules.specs.Signals.{Committed, Aborted}
 use Rattle.rules.specs.Identifiers.{Id}
 use Rattle.safety.specs.World.{Note, Message, Issued, World}
 use Rattle.safety.specs.Host.{careful}
 use Rattle.safety.specs.Run.{Run}
-
--- "Committed messages are commit, app-committed and answer-committed; aborted ones are abort, app-aborted and answer-aborted."
-abbrev pub Committed : Name → Type 0
-Committed a = (a ≡ name.Commit) ⊎ ((a ≡ name.AppCommitted) ⊎ (a ≡ name.AnswerCommitted))
-
-abbrev pub Aborted : Name → Type 0
-Aborted a = (a ≡ name.Abort) ⊎ ((a ≡ name.AppAborted) ⊎ (a ≡ name.AnswerAborted))
 
 -- among these messages is one about t whose name is P
 abbrev pub About : Id → (Name → Type 0) → List Issued → Type 0
