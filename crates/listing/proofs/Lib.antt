@@ -1,0 +1,4 @@
+pub mod Laws
+pub mod Walk
+pub mod Front
+pub mod Determined
