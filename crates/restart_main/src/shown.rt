@@ -1,6 +1,8 @@
 // What a restart gave, as a line.
 use libc::STDOUT_FILENO;
 use rules::Enlistment;
+use rules::Restarted;
+use rules::Row;
 use rules::Table;
 use rules::Transaction;
 
@@ -94,6 +96,42 @@ fn rows(table: Table) {
     }
 }
 
+fn listed_row(x: Row) {
+    let t = x.id;
+    let id = t.0;
+    count(b" ", wide(id[15]));
+    count(b"/", wide(x.state));
+    count(b"/", wide(x.held));
+    count(b"/", wide(x.undone));
+}
+
+// The listing into 32 rows, by the half that takes and gives values: its refusal, and each row as identifier/state/held/not Done.
+fn list(table: Table) {
+    let l = listing::plan(table, 32);
+    let n = l.count;
+    count(b"; listing ", wide(l.refusal));
+    let mut k: usize = 0;
+    while k < n {
+        let x = listing::row_at(table, k);
+        listed_row(x);
+        k += 1;
+    }
+}
+
+fn told(which: &[u8], case: u64, r: Restarted, different: u64) {
+    let t = r.table;
+    let d = dispenser::dispenser_after(t);
+    count(which, case);
+    count(b": ", wide(r.refusal));
+    count(b" used ", t.used as u64);
+    count(b" of ", t.capacity as u64);
+    count(b" changed ", different);
+    count(b" next ", d.next as u64);
+    rows(t);
+    list(t);
+    say(b"\n");
+}
+
 pub fn restarted(which: &[u8], case: u64, log: &mut [u8], capacity: usize, stored: usize) {
     if log.len() < capacity {
         return;
@@ -104,15 +142,6 @@ pub fn restarted(which: &[u8], case: u64, log: &mut [u8], capacity: usize, store
     let mut kept = [0u8; 65537];
     bytes::copy(log, &mut kept);
     let r = restart::restart(&mut log[..capacity], stored);
-    let t = r.table;
-    let d = dispenser::dispenser_after(t);
     let different = changed(&kept, log, capacity);
-    count(which, case);
-    count(b": ", wide(r.refusal));
-    count(b" used ", t.used as u64);
-    count(b" of ", t.capacity as u64);
-    count(b" changed ", different);
-    count(b" next ", d.next as u64);
-    rows(t);
-    say(b"\n");
+    told(which, case, r, different);
 }
