@@ -91,7 +91,7 @@ line-first why used signals before h l e =
 
 -- ── signals as an answer holds them ─────────────────────────────────────────────────────────────────────────────
 
-pad-take : (k : ℕ) (ss : List Signal) → length ss ≤ k → take (length ss) (padded k ss) ≡ ss
+pub pad-take : (k : ℕ) (ss : List Signal) → length ss ≤ k → take (length ss) (padded k ss) ≡ ss
 unfolding padded
 pad-take zero [] h = refl
 pad-take zero (s ∷ ss) h = absurd (omega arith)

@@ -1,0 +1,47 @@
+-- The calls of the code are runs, so that the theorem holds of them: an answer that meets the contract is the definition's, and the row of signals holds
+-- just the signals, since there are at most as many as it has places.
+use Prim.Native.Nat.{ℕ}
+use mathlib.Core.Path.{_≡_, refl, sym, _∙_, ap, subst}
+use mathlib.Core.List.{List}
+use lib.ListN.{length, take}
+use Rattle.rules.specs.declared.Table.{Table}
+use Rattle.rules.specs.declared.Event.{Event}
+use Rattle.rules.specs.declared.Stepped.{Stepped}
+use Rattle.rules.specs.declared.Restarted.{Restarted}
+use Rattle.rules.specs.Sizes.{signalsMost}
+use Rattle.rules.specs.Signals.{rowOf}
+use Rattle.rules.specs.Step.{Step, stepOf, answerOf}
+use Rattle.rules.specs.Restart.{Restart, restartOf, restartedOf}
+use Rattle.rules.proofs.Preserved.{step-few-signals}
+use Rattle.trace_line.proofs.Lines.{pad-take}
+use Rattle.safety.specs.World.{World, afterStep, afterRestart}
+use Rattle.safety.specs.Host.{careful, Makes}
+use Rattle.safety.specs.Run.{Run}
+use Rattle.safety.specs.Demand3.{Demand3, Safe}
+use Rattle.safety.proofs.Safety.{safety}
+use Rattle.agreement.specs.Calls.{StepContract, RestartContract, steppedTo, restartedTo, Calls}
+
+pub step-agrees : (tb : Table) (e : Event) (log : List ℕ) {r : Stepped} {after : List ℕ} → StepContract tb e log r after → steppedTo r after ≡ stepOf tb e log
+unfolding rowOf
+step-agrees tb e log (p, q) = rw (p, q) (λ i. record {
+    refusal = stepOf tb e log .refusal; table = stepOf tb e log .table;
+    signals = pad-take signalsMost (stepOf tb e log .signals) (step-few-signals tb e log) i; log = stepOf tb e log .log })
+
+pub restart-agrees : (log : List ℕ) (stored : ℕ) {r : Restarted} {after : List ℕ} → RestartContract log stored r after → restartedTo r after ≡ restartOf log stored
+restart-agrees log stored (p, q) = rw (p, q) refl
+
+pub calls-run : {w : World} → Calls w → Run careful w
+calls-run Calls.start = Run.start
+calls-run (Calls.step {w} c e tb log h {r} {after} m f) =
+    subst (λ (s : Step). Run careful (afterStep w tb e s)) (sym (step-agrees tb e log m))
+    (Run.step (calls-run c) e tb log h (λ a. f (ap (λ (s : Step). s .refusal) (step-agrees tb e log m) ∙ a)))
+calls-run (Calls.store c disk h) = Run.store (calls-run c) disk h
+calls-run (Calls.trim c disk h) = Run.trim (calls-run c) disk h
+calls-run (Calls.leave c i m h) = Run.leave (calls-run c) i m h
+calls-run (Calls.restart {w} c log stored h {r} {after} m) =
+    subst (λ (s : Restart). Run careful (afterRestart w s)) (sym (restart-agrees log stored m)) (Run.restart (calls-run c) log stored h)
+
+-- Demand 3, of the code.
+pub code-safe : (w : World) → Calls w → Safe w
+unfolding Demand3
+code-safe w c = safety w (calls-run c)
