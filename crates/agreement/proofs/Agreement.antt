@@ -3,19 +3,18 @@
 use Prim.Native.Nat.{ℕ}
 use mathlib.Core.Path.{_≡_, refl, sym, _∙_, ap, subst}
 use mathlib.Core.List.{List}
-use lib.ListN.{length, take}
 use Rattle.rules.specs.declared.Table.{Table}
 use Rattle.rules.specs.declared.Event.{Event}
 use Rattle.rules.specs.declared.Stepped.{Stepped}
 use Rattle.rules.specs.declared.Restarted.{Restarted}
 use Rattle.rules.specs.Sizes.{signalsMost}
 use Rattle.rules.specs.Signals.{rowOf}
-use Rattle.rules.specs.Step.{Step, stepOf, answerOf}
-use Rattle.rules.specs.Restart.{Restart, restartOf, restartedOf}
+use Rattle.rules.specs.Step.{Step, stepOf}
+use Rattle.rules.specs.Restart.{Restart, restartOf}
 use Rattle.rules.proofs.Preserved.{step-few-signals}
 use Rattle.trace_line.proofs.Lines.{pad-take}
 use Rattle.safety.specs.World.{World, afterStep, afterRestart}
-use Rattle.safety.specs.Host.{careful, Makes}
+use Rattle.safety.specs.Host.{careful}
 use Rattle.safety.specs.Run.{Run}
 use Rattle.safety.specs.Demand3.{Demand3, Safe}
 use Rattle.safety.proofs.Safety.{safety}
@@ -24,8 +23,11 @@ use Rattle.agreement.specs.Calls.{StepContract, RestartContract, stepped
 pub step-agrees : (tb : Table) (e : Event) (log : List ℕ) {r : Stepped} {after : List ℕ} → StepContract tb e log r after → steppedTo r after ≡ stepOf tb e log
 unfolding rowOf
 step-agrees tb e log (p, q) = rw (p, q) (λ i. record {
-    refusal = stepOf tb e log .refusal; table = stepOf tb e log .table;
-    signals = pad-take signalsMost (stepOf tb e log .signals) (step-few-signals tb e log) i; log = stepOf tb e log .log })
+  refusal = stepOf tb e log .refusal;
+  table = stepOf tb e log .table;
+  signals = pad-take signalsMost (stepOf tb e log .signals) (step-few-signals tb e log) i;
+  log = stepOf tb e log .log;
+})
 
 pub restart-agrees : (log : List ℕ) (stored : ℕ) {r : Restarted} {after : List ℕ} → RestartContract log stored r after → restartedTo r after ≡ restartOf log stored
 restart-agrees log stored (p, q) = rw (p, q) refl

@@ -1,14 +1,14 @@
 -- An answer of at most 17 signals is an output line of just these: the row that holds them is read back to them.
 use Prim.Native.Nat.{ℕ, _≤_}
-use mathlib.Core.Path.{_≡_, refl, _∙_, ap}
-use mathlib.Core.List.{List, _++_}
+use mathlib.Core.Path.{_≡_, _∙_, ap}
+use mathlib.Core.List.{List}
 use lib.ListN.{length}
 use lib.Seq.{sets}
 use Rattle.rules.specs.declared.Table.{Table}
 use Rattle.rules.specs.declared.Signal.{Signal}
 use Rattle.rules.specs.Sizes.{signalsMost}
 use Rattle.rules.specs.Signals.{rowOf}
-use Rattle.rules.specs.Trace.{Traced, outputOf}
+use Rattle.rules.specs.Trace.{outputOf}
 use Rattle.trace_line.proofs.Lines.{row-output}
 use Rattle.trace_run.specs.declared.Obeyed.{Obeyed}
 use Rattle.trace_run.specs.Promises.{Answers, Obeys}
@@ -19,5 +19,9 @@ pub answers-obey : (tb : Table) (why : ℕ) (ss : List Signal) (before : List �
 answers-obey tb why ss before o log left after l h a =
     let line = row-output why (tb .used) ss h in
     record {
-      table = a .same; left = l; sized = a .line .sized ∙ ap length line;
-      bytes = a .line .bytes ∙ ap (sets before 0) line; within = a .line .within }
+      table = a .same;
+      left = l;
+      sized = a .line .sized ∙ ap length line;
+      bytes = a .line .bytes ∙ ap (sets before 0) line;
+      within = a .line .within;
+    }
