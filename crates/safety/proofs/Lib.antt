@@ -32,3 +32,4 @@ pub mod Lengths
 pub mod Reopened
 pub mod Bricks
 pub mod Asked
+pub mod Restarted
