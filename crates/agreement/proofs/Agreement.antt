@@ -9,18 +9,18 @@ use Rattle.rules.specs.declared.Stepped.{Stepped}
 use Rattle.rules.specs.declared.Restarted.{Restarted}
 use Rattle.rules.specs.Sizes.{signalsMost}
 use Rattle.rules.specs.Signals.{rowOf}
-use Rattle.rules.specs.Step.{Step, stepOf}
-use Rattle.rules.specs.Restart.{Restart, restartOf}
+use Rattle.rules.specs.Step.{Step, stepOf, IsStep}
+use Rattle.rules.specs.Restart.{Restart, restartOf, IsRestart}
 use Rattle.rules.proofs.Preserved.{step-few-signals}
-use Rattle.trace_line.proofs.Lines.{pad-take}
+use Rattle.rules.proofs.Count.{pad-take}
 use Rattle.safety.specs.World.{World, afterStep, afterRestart}
 use Rattle.safety.specs.Host.{careful}
 use Rattle.safety.specs.Run.{Run}
 use Rattle.safety.specs.Demand3.{Demand3, Safe}
 use Rattle.safety.proofs.Safety.{safety}
-use Rattle.agreement.specs.Calls.{StepContract, RestartContract, steppedTo, restartedTo, Calls}
+use Rattle.agreement.specs.Calls.{steppedTo, restartedTo, Calls}
 
-pub step-agrees : (tb : Table) (e : Event) (log : List ℕ) {r : Stepped} {after : List ℕ} → StepContract tb e log r after → steppedTo r after ≡ stepOf tb e log
+pub step-agrees : (tb : Table) (e : Event) (log : List ℕ) {r : Stepped} {after : List ℕ} → IsStep tb e log r after → steppedTo r after ≡ stepOf tb e log
 unfolding rowOf
 step-agrees tb e log (p, q) = rw (p, q) (λ i. record {
   refusal = stepOf tb e log .refusal;
@@ -29,7 +29,7 @@ step-agrees tb e log (p, q) = rw (p, q) (λ i. record {
   log = stepOf tb e log .log;
 })
 
-pub restart-agrees : (log : List ℕ) (stored : ℕ) {r : Restarted} {after : List ℕ} → RestartContract log stored r after → restartedTo r after ≡ restartOf log stored
+pub restart-agrees : (log : List ℕ) (stored : ℕ) {r : Restarted} {after : List ℕ} → IsRestart log stored r after → restartedTo r after ≡ restartOf log stored
 restart-agrees log stored (p, q) = rw (p, q) refl
 
 pub calls-run : {w : World} → Calls w → Run careful w

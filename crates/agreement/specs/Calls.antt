@@ -1,4 +1,4 @@
--- Runs whose steps and restarts are calls of the code: all that is known of an answer is what the function's contract says.
+-- Runs whose steps and restarts are calls of the code: all that is known of an answer is what the function promises, `IsStep` and `IsRestart`.
 use Prim.Native.Nat.{ℕ}
 use mathlib.Core.Path.{_≡_}
 use mathlib.Core.List.{List}
@@ -9,18 +9,10 @@ use Rattle.rules.specs.declared.Event.{Event}
 use Rattle.rules.specs.declared.Stepped.{Stepped}
 use Rattle.rules.specs.declared.Restarted.{Restarted}
 use Rattle.rules.specs.RefusalNumber as refusal
-use Rattle.rules.specs.Step.{Step, stepOf, answerOf}
-use Rattle.rules.specs.Restart.{Restart, restartOf, restartedOf}
+use Rattle.rules.specs.Step.{Step, IsStep}
+use Rattle.rules.specs.Restart.{Restart, IsRestart}
 use Rattle.safety.specs.World.{World, Issued, empty, afterStep, withDisk, afterLeaving, afterRestart}
 use Rattle.safety.specs.Host.{careful, Makes}
-
--- the contract of `step`: of its arguments, its answer and the log as it leaves it
-abbrev pub StepContract : Table → Event → List ℕ → Stepped → List ℕ → Type 0
-StepContract tb e log r after = (r ≡ answerOf (stepOf tb e log)) × (after ≡ stepOf tb e log .log)
-
--- the contract of `restart`
-abbrev pub RestartContract : List ℕ → ℕ → Restarted → List ℕ → Type 0
-RestartContract log stored r after = (r ≡ restartedOf (restartOf log stored)) × (after ≡ restartOf log stored .log)
 
 -- What a host has in hand after a call: the answer, the signals that its row holds, and the log.
 abbrev pub steppedTo : Stepped → List ℕ → Step
@@ -33,10 +25,10 @@ restartedTo r after = record { refusal = r .refusal; table = r .table; log = aft
 pub data Calls : World → Type 0 where
   start : Calls empty
   step : {w : World} → Calls w → (e : Event) (tb : Table) (log : List ℕ) → careful .hands w tb log
-      → {r : Stepped} {after : List ℕ} → StepContract tb e log r after → (r .refusal ≡ refusal.accepted → Makes careful (w .notes) e)
+      → {r : Stepped} {after : List ℕ} → IsStep tb e log r after → (r .refusal ≡ refusal.accepted → Makes careful (w .notes) e)
       → Calls (afterStep w tb e (steppedTo r after))
   store : {w : World} → Calls w → (disk : List ℕ) → careful .stores w disk → Calls (withDisk disk w)
   trim : {w : World} → Calls w → (disk : List ℕ) → careful .trims w disk → Calls (withDisk disk w)
   leave : {w : World} → Calls w → (i : Issued) → i ∈ w .waiting → careful .leaves w i → Calls (afterLeaving i w)
   restart : {w : World} → Calls w → (log : List ℕ) (stored : ℕ) → careful .gives w log stored
-      → {r : Restarted} {after : List ℕ} → RestartContract log stored r after → Calls (afterRestart w (restartedTo r after))
+      → {r : Restarted} {after : List ℕ} → IsRestart log stored r after → Calls (afterRestart w (restartedTo r after))

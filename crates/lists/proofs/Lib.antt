@@ -3,3 +3,5 @@ pub mod Sorting
 pub mod Places
 pub mod Loops
 pub mod Says
+pub mod Apart
+pub mod Stores

@@ -1,3 +1,2 @@
 pub mod Coincide
-pub mod Stores
 pub mod Types

@@ -14,7 +14,7 @@ use Rattle.lists.specs.Places.{eachFrom}
 use Rattle.lists.proofs.Tests.{true-and}
 use Rattle.rules.specs.Messages.{MessageType, messageType, messageTypes, isType, payloadOf}
 use Rattle.messages.specs.declared.MessageType as declared
-use Rattle.messages.proofs.Stores.{drop-next}
+use Rattle.lists.proofs.Loops.{drop-at}
 
 abbrev none : MessageType
 none = messageType 0 0
@@ -80,7 +80,7 @@ unfolding isType payloadOf
 sought-start = record { within = omega arith; known = refl; payload = refl }
 
 turn : (i : ℕ) → i < 8 → drop i messageTypes ≡ getD messageTypes i none ∷ drop (i + 1) messageTypes
-turn i h = drop-next messageTypes i none (rw eight h)
+turn i h = drop-at messageTypes i none (rw eight h)
 
 module _ (d : Row) {k i : ℕ} (p : Sought k i) (h : i < 8) where
   pub sought-next : eqb (getD table i d .kind) k ≡ false → Sought k (i + 1)

@@ -245,16 +245,8 @@ pub fn read_message(bytes: &[u8]) -> Read
 fn is_zero(id: [u8; 16]) -> bool
     ensures { λ r. ⌜ r ≡ sameBytes id zeroId ⌝ }
 {
-    let mut i: usize = 0;
-    while i < sizes::IDENTIFIER {
-        let zero = id[i] == 0;
-        if zero {
-            i += 1;
-        } else {
-            return false;
-        }
-    }
-    true
+    let zeros = [0u8; 16];
+    identifiers::same(id, zeros)
 }
 
 fn either(a: bool, b: bool) -> bool

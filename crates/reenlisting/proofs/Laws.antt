@@ -2,7 +2,7 @@
 use Prim.Native.Nat.{ℕ, _+_, _*_, _-_, _≤_, _<_}
 use native.Mathlib.Omega.{arith}
 use mathlib.Core.Path.{_≡_, refl, ap, sym, _∙_}
-use mathlib.Core.List.{List, [], _∷_}
+use mathlib.Core.List.{List, []}
 use lib.ListN.{length, getD, take, drop}
 use Rattle.lists.proofs.Loops.{drop-at, drop-done}
 use Rattle.rules.specs.declared.Table.{Table}
@@ -11,6 +11,7 @@ use Rattle.rules.specs.Signals.{rowOf}
 use Rattle.rules.specs.Events.{quietly, finished, endOf, endEach}
 use Rattle.endings.specs.declared.Accepted.{Accepted}
 use Rattle.endings.specs.Gives.{Gives, Leaves}
+use Rattle.rules.proofs.Count.{end-each-quiet}
 use Rattle.orders.specs.declared.Order.{Order}
 use Rattle.orders.specs.Orders.{orderOf}
 use Rattle.orders.proofs.Laws.{order-take}
@@ -43,16 +44,11 @@ module _ {n : ℕ} {ps : List ℕ} {tb₀ : Table} {log₀ : List ℕ} where
       let q : endEach ps tb₀ log₀ ≡ quietly tb log = rw (drop-done ps i (omega (arith, e .long))) at (e .same) in
       record { table = sym (ap (λ o. o .table) q); log = sym (ap (λ o. o .log) q) }
 
-each-silent : (ps : List ℕ) (tb : Table) (log : List ℕ) → endEach ps tb log .signals ≡ []
-unfolding endEach
-each-silent [] tb log = refl
-each-silent (p ∷ ps) tb log = each-silent ps (endOf p tb log .table) (endOf p tb log .log)
-
 pub each-done : (tb : Table) (log : List ℕ) {o : Order} {u : Table} {r : Accepted} {out : List ℕ} → o ≡ orderOf (finished tb) → o .count ≤ transactionPlaces
     → Leaves (endEach (take (o .count) (o .items)) tb log) u out → r ≡ record { table = u; signals = rowOf [] } → Gives (endEach (finished tb) tb log) r out
 each-done tb log e h l q =
     let k = order-take (finished tb) e h in
     record {
-      answer = q ∙ rw (each-silent (finished tb) tb log) (ap (λ t. record { table = t; signals = rowOf [] }) (l .table ∙ ap (λ ps. endEach ps tb log .table) k));
+      answer = q ∙ rw (end-each-quiet (finished tb) tb log) (ap (λ t. record { table = t; signals = rowOf [] }) (l .table ∙ ap (λ ps. endEach ps tb log .table) k));
       log = l .log ∙ ap (λ ps. endEach ps tb log .log) k;
     }

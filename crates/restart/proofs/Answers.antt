@@ -2,21 +2,22 @@
 use Prim.Native.Nat.{ℕ, _+_, _*_, _≤_, _<_}
 use native.Mathlib.Omega.{arith}
 use mathlib.Core.Path.{_≡_, sym, _∙_, ap}
-use mathlib.Core.Bool.{true, false, _||_}
+use mathlib.Core.Bool.{true, false}
 use mathlib.Core.List.{List, [], _++_}
 use lib.Dec.{ltb}
 use lib.ListN.{length, take, drop}
 use lib.Seq.{take-take, sets-eq}
-use borrow.Author.Tests.{ltb-false, lt-ltb, le-ltb}
-use Rattle.lists.proofs.Tests.{by-test, false-or}
+use borrow.Author.Tests.{lt-ltb, le-ltb}
+use Rattle.lists.proofs.Tests.{by-test}
 use Rattle.rules.specs.declared.Table.{Table}
 use Rattle.rules.specs.declared.Restarted.{Restarted}
 use Rattle.rules.specs.RefusalNumber as refusal
-use Rattle.rules.specs.Sizes.{headerSize, leastCapacity, largestCapacity}
+use Rattle.rules.specs.Sizes.{headerSize}
 use Rattle.rules.specs.Identifiers.{sameBytes}
 use Rattle.rules.specs.Table.{freshOf}
 use Rattle.rules.specs.Log.{header, forgetSize, scan, written}
 use Rattle.rules.specs.Restart.{openAfter, tableOf, refusedRestart, doneRestart, usedOf, isDamaged, isTooShort, readBack, isOutside, restartOf, restartedOf}
+use Rattle.rules.proofs.Restarts.{inside}
 use Rattle.log_reader.specs.Reading.{bytesAt}
 use Rattle.log_reader.proofs.Scanning.{bytes-are}
 use Rattle.open_records.specs.Opening.{startsOf, opensOf}
@@ -61,18 +62,6 @@ read-leaves body log = by-test (isDamaged body) (λ t. rw t) (λ t. by-test (isT
 
 bytes-front : (log : List ℕ) (n : ℕ) → n ≤ length log → bytesAt log 0 n ≡ take n log
 bytes-front log n h = sym (bytes-are log n h n 0 (omega arith)) ∙ take-take n n log (omega arith)
-
--- what lies within
-pub record Inside (log : List ℕ) (stored : ℕ) : Type 0 where
-  pub least : leastCapacity ≤ length log
-  pub most : length log ≤ largestCapacity
-  pub below : stored ≤ length log
-
-pub inside : (log : List ℕ) (stored : ℕ) → isOutside log stored ≡ false → Inside log stored
-inside log stored e =
-    let p = false-or (ltb (length log) leastCapacity || ltb largestCapacity (length log)) (ltb (length log) stored) e in
-    let q = false-or (ltb (length log) leastCapacity) (ltb largestCapacity (length log)) (p .0) in
-    record { least = ltb-false _ _ (q .0); most = ltb-false _ _ (q .1); below = ltb-false _ _ (p .1) }
 
 module _ (log : List ℕ) (stored : ℕ) where
   pub outside-is : isOutside log stored ≡ true → restartOf log stored ≡ refusedRestart refusal.damagedLog log

@@ -4,8 +4,9 @@ use native.Mathlib.Omega.{arith}
 use native.Mathlib.Numerals.{add-one}
 use mathlib.Core.Path.{_≡_, refl, sym, _∙_}
 use mathlib.Core.List.{List, [], _∷_, _++_, map}
-use lib.ListN.{length, drop, set, replicate, length-append, length-map, length-replicate}
+use lib.ListN.{length, drop, set, replicate, length-map, length-replicate}
 use lib.Seq.{sets, sets-eq}
+use Rattle.lists.proofs.Stores.{sets-append}
 use Rattle.rules.specs.declared.Transaction.{Transaction}
 use Rattle.rules.specs.declared.Enlistment.{Enlistment}
 use Rattle.rules.specs.declared.Table.{Table}
@@ -13,13 +14,10 @@ use Rattle.rules.specs.Sizes.{transactionPlaces, enlistmentPlaces}
 use Rattle.rules.specs.Table.{noTransaction, noEnlistment, withTransactions, withEnlistments}
 use Rattle.rules.specs.Log.{Entry}
 use Rattle.rules.specs.Restart.{Open, entriesOpen, reopened, reenlistment, reenlistments, tableOf}
+use Rattle.rules.proofs.Restarts.{reenlistments-long}
 use Rattle.restart.specs.Readback.{emptyTable, transactionsPut, entriesPut, enlistmentsPut}
 
 -- ── rows of stores ──────────────────────────────────────────────────────────────────────────────────────────────
-
-sets-append : {A : Type 0} (l : List A) (k : ℕ) (xs ys : List A) → sets l k (xs ++ ys) ≡ sets (sets l k xs) (k + length xs) ys
-sets-append l k [] ys = let e : k + 0 ≡ k = omega arith in rw e
-sets-append l k (x ∷ xs) ys = let e : k + suc (length xs) ≡ suc k + length xs = omega arith in rw e (sets-append (set l k x) (suc k) xs ys)
 
 drop-replicate : {A : Type 0} (k n : ℕ) (x : A) → drop k (replicate n x) ≡ replicate (n - k) x
 drop-replicate zero n x = let e : n - 0 ≡ n = omega arith in rw e
@@ -96,12 +94,6 @@ module _ {os : List Open} {t : Table} where
   enlisting-done p n = sym (rw n at (p .same))
 
 -- ── the whole table ─────────────────────────────────────────────────────────────────────────────────────────────
-
-reenlistments-long : (p : ℕ) (os : List Open) → length (reenlistments p os) ≡ length (entriesOpen os)
-unfolding reenlistments entriesOpen
-reenlistments-long p [] = refl
-reenlistments-long p (o ∷ os) =
-    rw (length-append (map (reenlistment p) (o .entries)) (reenlistments (suc p) os), length-map (o .entries) (reenlistment p), reenlistments-long (suc p) os, length-append (o .entries) (entriesOpen os))
 
 pub table-is : (capacity used : ℕ) (os : List Open) → length os ≤ transactionPlaces → length (entriesOpen os) ≤ enlistmentPlaces
     → enlistmentsPut os (transactionsPut os (emptyTable capacity used)) ≡ tableOf capacity used os

@@ -3,7 +3,7 @@ use Prim.Native.Nat.{ℕ, _+_, _≤_, _<_}
 use native.Mathlib.Omega.{arith}
 use mathlib.Core.Path.{_≡_, refl, sym, _∙_}
 use mathlib.Core.Bool.{Bool, true, false, not, _&&_, or-false, or-true}
-use mathlib.Core.List.{List, [], _∷_, _++_, append-assoc, append-nil}
+use mathlib.Core.List.{List, [], _∷_, append-nil}
 use lib.Dec.{eqb, leb}
 use lib.ListN.{length, take, drop, length-append}
 use borrow.Author.Tests.{leb-true}
@@ -13,6 +13,7 @@ use Rattle.rules.specs.Sizes.{transactionPlaces, enlistmentPlaces, headerSize}
 use Rattle.rules.specs.Identifiers.{Id, isZero}
 use Rattle.rules.specs.Log.{Entry, Record, scan, behind, beginsNone}
 use Rattle.rules.specs.Restart.{Open, isOpenAs, entriesOpen, afterRecord, openAfter, ascendFrom, sameEntryManager, isFitting, allFitting}
+use Rattle.rules.proofs.Restarts.{entries-append}
 use Rattle.log_reader.specs.Reading.{identifierAt, entriesAt, isCommitAt, recordAt, wholeAt, noneAt}
 use Rattle.log_reader.proofs.Scanning.{rest-length, scan-next, behind-next, whole-within, scan-end, behind-end, none-is}
 use Rattle.open_records.specs.declared.OpenRecords.{OpenRecords}
@@ -23,11 +24,6 @@ use Rattle.restart.specs.declared.Readings.{Readings}
 use Rattle.restart.specs.Readback.{bodyOf, Read}
 
 -- ── how many are open ───────────────────────────────────────────────────────────────────────────────────────────
-
-entries-append : (os ps : List Open) → entriesOpen (os ++ ps) ≡ entriesOpen os ++ entriesOpen ps
-unfolding entriesOpen
-entries-append [] ps = refl
-entries-append (o ∷ os) ps = rw (entries-append os ps) (sym (append-assoc (o .entries) (entriesOpen os) (entriesOpen ps)))
 
 entries-filter : (f : Open → Bool) (os : List Open) → length (entriesOpen (filter f os)) ≤ length (entriesOpen os)
 unfolding entriesOpen filter

@@ -6,7 +6,7 @@ ghost use lib.Dec.{ltb};
 ghost use lib.ListN.{length, set};
 ghost use Rattle.rules.specs.Sizes.{leastCapacity, largestCapacity};
 ghost use Rattle.rules.specs.Table.{withEnlistments};
-ghost use Rattle.rules.specs.Restart.{reopened, reenlistment, readBack, restartOf, restartedOf};
+ghost use Rattle.rules.specs.Restart.{IsRestart, reopened, reenlistment, readBack, restartedOf};
 ghost use Rattle.log_reader.specs.Reading.{entryAt, entriesAt};
 ghost use Rattle.open_records.specs.Opening.{openAt, opensOf};
 ghost use Rattle.restart.specs.Readback.{bodyOf, Read, emptyTable, refusedAs, doneWith, transactionsPut, entriesPut, enlistmentsPut};
@@ -237,7 +237,7 @@ fn is_outside(capacity: usize, stored: usize) -> bool
 
 // Writes nothing but the header, where less than that is stored.
 pub fn restart(log: &mut [u8], stored: usize) -> Restarted
-    ensures { λ r. ⌜ (r ≡ restartedOf (restartOf (now (log .entry)) stored)) × (now (log .exit) ≡ restartOf (now (log .entry)) stored .log) ⌝ }
+    ensures { λ r. ⌜ IsRestart (now (log .entry)) stored r (now (log .exit)) ⌝ }
 {
     let outside = is_outside(log.len(), stored);
     if outside {

@@ -1,17 +1,18 @@
 -- Two lists side by side: a row of places before a change and after it. Each law goes along both.
 use Prim.Native.Nat.{ℕ, suc, _+_, _≤_, _<_}
 use native.Mathlib.Omega.{arith}
-use mathlib.Core.Path.{_≡_, refl, sym, _∙_, ap, subst}
+use mathlib.Core.Path.{_≡_, refl, sym, ap, subst}
 use mathlib.Core.Bool.{Bool, true, false, cond}
 use mathlib.Core.List.{List, [], _∷_, map, List·Memᴰ·cases-cons, List·Memᴰ·not-nil}
 use lib.ListN.{length}
 use lib.Dec.{eqb}
 use borrow.Author.Tests.{eqb-true, eqb-false, eq-eqb, ne-eqb}
 use Rattle.lists.specs.Lists.{filter}
-use Rattle.lists.specs.Members.{_∈_, Each, Some, Apart, nothing, more}
+use Rattle.lists.specs.Members.{_∈_, Each, Some, Apart, more}
 use Rattle.lists.specs.Places.{atFrom, at, changeFrom, changeAt, putLowest, placesFrom, placesWhere}
 use Rattle.lists.proofs.Tests.{by-test, by-either, each-head, each-rest, some-here, some-later, in-filter, of-filter}
 use Rattle.lists.proofs.Places.{of-put, change-below}
+use Rattle.lists.proofs.Apart.{apart-head, apart-rest}
 
 pub data Along {A : Type 0} (S : A → A → Type 0) : List A → List A → Type 0 where
   along-end : Along S [] []
@@ -48,21 +49,6 @@ module _ {A : Type 0} {S : A → A → Type 0} where
   along-change f p d xs r h = along-change-from f 1 p d xs r (λ l. h)
 
 -- ── those that pass a test ──────────────────────────────────────────────────────────────────────────────────────
-
-module _ {A : Type 0} {R : A → A → Type 0} where
-  pub apart-head : {x : A} {xs : List A} → Apart R (x ∷ xs) → Each (λ y. R x y → ⊥) xs
-  apart-head (more h r) = h
-
-  pub apart-rest : {x : A} {xs : List A} → Apart R (x ∷ xs) → Apart R xs
-  apart-rest (more h r) = r
-
-  -- two members that are alike are one
-  pub apart-one : ((x y : A) → R x y → R y x) → {x y : A} {xs : List A} → Apart R xs → x ∈ xs → y ∈ xs → R x y → x ≡ y
-  apart-one turn nothing m n e = absurd (List·Memᴰ·not-nil m)
-  apart-one turn {x} {y} (more {x = z} {xs = zs} h r) m n e = by-either
-      (λ a. by-either (λ b. a ∙ sym b) (λ b. absurd (h y b (subst (λ w. R w y) a e))) (List·Memᴰ·cases-cons n))
-      (λ a. by-either (λ b. absurd (h x a (subst (λ w. R w x) b (turn x y e)))) (λ b. apart-one turn r a b e) (List·Memᴰ·cases-cons n))
-      (List·Memᴰ·cases-cons m)
 
 module _ {A : Type 0} {S : A → A → Type 0} (t : A → Bool) (passed : (x y : A) → S x y → t y ≡ true → t x ≡ true) where
   pub along-filter : {xs ys : List A} {y : A} → Along S xs ys → y ∈ filter t ys → Some (λ x. S x y) (filter t xs)

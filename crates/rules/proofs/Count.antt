@@ -1,10 +1,10 @@
 -- "At most 17" signals: one to each enlistment that the transaction holds, of which there are at most 16, and one to the application.
-use Prim.Native.Nat.{ℕ, _≤_}
+use Prim.Native.Nat.{ℕ, zero, suc, _≤_}
 use native.Mathlib.Omega.{arith}
-use mathlib.Core.Path.{_≡_, refl, _∙_}
+use mathlib.Core.Path.{_≡_, refl, _∙_, ap}
 use mathlib.Core.Bool.{_&&_}
 use mathlib.Core.List.{List, [], _∷_}
-use lib.ListN.{length, length-map, length-append}
+use lib.ListN.{length, take, length-map, length-append}
 use lib.Dec.{eqb}
 use Rattle.lists.specs.Lists.{all, any, none, filter}
 use Rattle.lists.specs.Sorting.{sortBy}
@@ -13,6 +13,7 @@ use Rattle.lists.proofs.Sorting.{length-sort}
 use Rattle.rules.specs.declared.Enlistment.{Enlistment}
 use Rattle.rules.specs.declared.Table.{Table}
 use Rattle.rules.specs.declared.Event.{Event}
+use Rattle.rules.specs.declared.Signal.{Signal}
 use Rattle.rules.specs.declared.Act.{Act}
 use Rattle.rules.specs.declared.Act.the-variants as act
 use Rattle.rules.specs.declared.Name.{Name}
@@ -30,7 +31,7 @@ use Rattle.rules.specs.Sizes.{heldMost, signalsMost}
 use Rattle.rules.specs.Identifiers.{Id}
 use Rattle.rules.specs.Table.{stateAt, held, isPhaseZero, isDurable, isMarked, isIn, isDone, inState, freed, changeHeld, changeNumber}
 use Rattle.rules.specs.Sound.{isOpen, Sound}
-use Rattle.rules.specs.Signals.{byNumber, toEach, toApp}
+use Rattle.rules.specs.Signals.{padded, byNumber, toEach, toApp}
 use Rattle.rules.specs.Events.{Outcome, hearsAbort, abortOf, lacksRoom, commitSignals, endCommitted, decideOf, startPhaseOne, beginOf, zeroAtOnce, enlistOf, commitOf, endIfDone, endOf, append, follow, react, reactedOf, isOver, askOf, endEach, reenlistedOf, acted, acceptedOf}
 use Rattle.rules.specs.Refusals.{refusalOf}
 use Rattle.rules.proofs.Frames.{held-shorter}
@@ -44,17 +45,25 @@ each-count : (a : Name) (es : List Enlistment) → length (toEach a es) ≡ leng
 unfolding toEach
 each-count a es = length-map (sortBy byNumber es) _ ∙ length-sort byNumber es
 
+-- the row of an answer holds the signals that it was made of
+pub pad-take : (k : ℕ) (ss : List Signal) → length ss ≤ k → take (length ss) (padded k ss) ≡ ss
+unfolding padded
+pad-take zero [] h = refl
+pad-take zero (s ∷ ss) h = absurd (omega arith)
+pad-take (suc k) [] h = refl
+pad-take (suc k) (s ∷ ss) h = ap (λ l. s ∷ l) (pad-take k ss (omega arith))
+
 -- ── nothing is said at an end itself ────────────────────────────────────────────────────────────────────────────
 
-end-quiet : (p : ℕ) (tb : Table) (log : List ℕ) → endOf p tb log .signals ≡ []
+pub end-quiet : (p : ℕ) (tb : Table) (log : List ℕ) → endOf p tb log .signals ≡ []
 unfolding endOf append
 end-quiet p tb log = by-test (isOpen (stateAt p tb) (held p tb)) (λ t. rw t) (λ t. rw t)
 
-end-if-done-quiet : (p : ℕ) (tb : Table) (log : List ℕ) → endIfDone p tb log .signals ≡ []
+pub end-if-done-quiet : (p : ℕ) (tb : Table) (log : List ℕ) → endIfDone p tb log .signals ≡ []
 unfolding endIfDone
 end-if-done-quiet p tb log = by-test (all isDone (held p tb)) (λ t. rw t (end-quiet p tb log)) (λ t. rw t)
 
-end-each-quiet : (ps : List ℕ) (tb : Table) (log : List ℕ) → endEach ps tb log .signals ≡ []
+pub end-each-quiet : (ps : List ℕ) (tb : Table) (log : List ℕ) → endEach ps tb log .signals ≡ []
 unfolding endEach
 end-each-quiet [] tb log = refl
 end-each-quiet (p ∷ ps) tb log = end-each-quiet ps (endOf p tb log .table) (endOf p tb log .log)

@@ -47,7 +47,7 @@ id-length p tb k l = k .transaction-identifiers (transactionAt p tb) (Rattle.li
 not-open-emptied : (p : ℕ) (tb : Table) → openAt p (emptied p tb) ≡ false
 not-open-emptied p tb = ap (λ x. isOpen (x .state) (held p (emptied p tb))) (at-emptied-place p tb)
 
-used-emptied : (p : ℕ) (tb : Table) → emptied p tb .used ≡ tb .used
+pub used-emptied : (p : ℕ) (tb : Table) → emptied p tb .used ≡ tb .used
 used-emptied p tb = used-transaction p ended (changeHeld p freed tb) ∙ used-held p freed tb
 
 -- at any place

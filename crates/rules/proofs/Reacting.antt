@@ -10,6 +10,7 @@ use borrow.Author.Tests.{eqb-true, eqb-false, eq-eqb, ne-eqb}
 use Rattle.lists.specs.Lists.{any}
 use Rattle.lists.specs.Members.{_∈_, Each, Some}
 use Rattle.lists.proofs.Tests.{by-test, by-either, true-or, any-some, none-each, in-filter, first-passes}
+use Rattle.lists.proofs.Apart.{apart-one}
 use Rattle.rules.specs.declared.Enlistment.{Enlistment}
 use Rattle.rules.specs.declared.Table.{Table}
 use Rattle.rules.specs.declared.Act.{Act}
@@ -26,7 +27,6 @@ use Rattle.rules.specs.Table.{noEnlistment, isNumbered, numbered, isPhas
 use Rattle.rules.specs.Sound.{In, PhaseZero, Durable, HoldsWell, Live, Held, Sound}
 use Rattle.rules.specs.Events.{toVote, toReply, toLost, reactionOf, follow, react, reactedOf}
 use Rattle.rules.proofs.Frames.{of-held, in-held}
-use Rattle.rules.proofs.Along.{apart-one}
 use Rattle.rules.proofs.Kept.{Kept, sound-kept, stays, live-some, held-true}
 use Rattle.rules.proofs.Only.{only-same, Keeps, frees, only-held, kept-held, at-changed, each-changed, some-changed, room-held}
 use Rattle.rules.proofs.Parts.{Part, part-then, end-part, end-if-done-part, Abortable, abort-part}

@@ -146,6 +146,11 @@ pub torn-nothing : Torn []
 unfolding recordBytes
 torn-nothing = record { whole = Record.forget zeroId; valid = valid-forget refl; rest = recordBytes (Record.forget zeroId); begins = refl; missing = omega arith }
 
+pub all-append : (rs ss : List Record) → allBytes (rs ++ ss) ≡ allBytes rs ++ allBytes ss
+unfolding allBytes
+all-append [] ss = refl
+all-append (r ∷ rs) ss = rw (all-append rs ss) (sym (append-assoc (recordBytes r) (allBytes rs) (allBytes ss)))
+
 pub scan-all : (rs : List Record) {bs : List ℕ} → Each Valid rs → Torn bs → scan 0 (allBytes rs ++ bs) ≡ rs
 unfolding allBytes
 scan-all [] v p = torn-read p .0

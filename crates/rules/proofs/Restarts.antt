@@ -4,9 +4,9 @@ use Prim.Native.Nat.{ℕ, zero, suc, _+_, _-_, _≤_, _<_}
 use native.Mathlib.Omega.{arith}
 use mathlib.Core.Path.{_≡_, refl, sym, _∙_, ap}
 use mathlib.Core.Bool.{true, false, not, _&&_, _||_}
-use mathlib.Core.List.{List, [], _∷_, _++_}
+use mathlib.Core.List.{List, [], _∷_, _++_, map, append-assoc}
 use lib.Dec.{eqb, ltb, leb}
-use lib.ListN.{length, take, drop, length-append, length-drop, take-append-drop}
+use lib.ListN.{length, take, drop, length-append, length-map, length-drop, take-append-drop}
 use lib.Seq.{length-take-le, take-nil, take-take, take-append-le, take-append-add}
 use borrow.Author.Tests.{ltb-true, ltb-false, leb-true, le-ltb, le-leb}
 use Rattle.lists.specs.Members.{Each}
@@ -16,8 +16,21 @@ use Rattle.rules.specs.RefusalNumber as refusal
 use Rattle.rules.specs.Identifiers.{sameBytes}
 use Rattle.rules.specs.Table.{freshOf}
 use Rattle.rules.specs.Log.{Record, header, recordBytes, allBytes, commitTag, forgetTag, sizeOf, isWhole, scan, behind, beginsNone}
-use Rattle.rules.specs.Restart.{openAfter, allFitting, tableOf, reenlistments, refusedRestart, doneRestart, usedOf, isDamaged, isTooShort, readBack, isOutside, restartOf}
+use Rattle.rules.specs.Restart.{Open, entriesOpen, openAfter, allFitting, tableOf, reenlistment, reenlistments, refusedRestart, doneRestart, usedOf, isDamaged, isTooShort, readBack, isOutside, restartOf}
 use Rattle.rules.proofs.Records.{Valid, Torn, torn-begins, scan-all, behind-all, scan-length}
+
+-- ── the open ones and their entries ─────────────────────────────────────────────────────────────────────────────
+
+pub entries-append : (os ps : List Open) → entriesOpen (os ++ ps) ≡ entriesOpen os ++ entriesOpen ps
+unfolding entriesOpen
+entries-append [] ps = refl
+entries-append (o ∷ os) ps = rw (entries-append os ps) (sym (append-assoc (o .entries) (entriesOpen os) (entriesOpen ps)))
+
+pub reenlistments-long : (p : ℕ) (os : List Open) → length (reenlistments p os) ≡ length (entriesOpen os)
+unfolding reenlistments entriesOpen
+reenlistments-long p [] = refl
+reenlistments-long p (o ∷ os) =
+    rw (length-append (map (reenlistment p) (o .entries)) (reenlistments (suc p) os), length-map (o .entries) (reenlistment p), reenlistments-long (suc p) os, length-append (o .entries) (entriesOpen os))
 
 -- ── the used bytes hold the same records ────────────────────────────────────────────────────────────────────────
 
@@ -95,7 +108,7 @@ pub record Inside (log : List ℕ) (stored : ℕ) : Type 0 where
   pub most : length log ≤ largestCapacity
   pub below : stored ≤ length log
 
-inside : (log : List ℕ) (stored : ℕ) → isOutside log stored ≡ false → Inside log stored
+pub inside : (log : List ℕ) (stored : ℕ) → isOutside log stored ≡ false → Inside log stored
 inside log stored e =
     let p = false-or (ltb (length log) leastCapacity || ltb largestCapacity (length log)) (ltb (length log) stored) e in
     let q = false-or (ltb (length log) leastCapacity) (ltb largestCapacity (length log)) (p .0) in

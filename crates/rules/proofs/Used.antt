@@ -1,15 +1,15 @@
 -- What an event writes: records behind the used bytes, and nothing else. Each part of an event writes none or one, and what follows goes on behind it.
-use Prim.Native.Nat.{ℕ, suc, _+_, _≤_}
+use Prim.Native.Nat.{ℕ, _+_, _≤_}
 use native.Mathlib.Omega.{arith}
-use native.Mathlib.Nat.{add-zero, add-suc, suc-add}
 use mathlib.Core.Path.{_≡_, refl, sym, _∙_, ap}
 use mathlib.Core.Bool.{_&&_}
 use lib.Dec.{eqb}
 use Rattle.lists.specs.Lists.{all, any, none, filter}
-use mathlib.Core.List.{List, [], _∷_, _++_, append-nil, append-assoc}
-use lib.ListN.{length, take, drop, set, length-append}
-use lib.Seq.{sets, sets-eq, drop-at, length-take-le}
+use mathlib.Core.List.{List, [], _∷_, _++_, append-nil}
+use lib.ListN.{length, take, drop, length-append}
+use lib.Seq.{sets-eq, drop-at, length-take-le}
 use Rattle.lists.proofs.Tests.{by-test}
+use Rattle.lists.proofs.Stores.{sets-append}
 use Rattle.rules.specs.declared.Table.{Table}
 use Rattle.rules.specs.declared.Signal.{Signal}
 use Rattle.rules.specs.declared.Act.{Act}
@@ -25,6 +25,7 @@ use Rattle.rules.specs.Sound.{isOpen}
 use Rattle.rules.specs.Table.{stateAt, held, isPhaseZero, isDurable, isMarked, isIn, isDone, changeHeld, changeTransaction, useMore}
 use Rattle.rules.specs.Log.{Record, recordBytes, allBytes, written}
 use Rattle.rules.specs.Events.{Outcome, saying, append, endOf, endIfDone, abortOf, endCommitted, lacksRoom, decideOf, startPhaseOne, beginOf, enlistOf, commitOf, follow, react, reactedOf, isOver, askOf, endEach, reenlistedOf, acted}
+use Rattle.rules.proofs.Records.{all-append}
 use Rattle.rules.proofs.Frames.{written-used}
 
 -- These records are written behind the used bytes, and no others.
@@ -34,15 +35,6 @@ pub record Writes (tb : Table) (log : List ℕ) (o : Outcome) : Type 0 where
   pub log-is : o .log ≡ written (tb .used) (allBytes records) log
 
 -- ── one after another ───────────────────────────────────────────────────────────────────────────────────────────
-
-all-append : (rs ss : List Record) → allBytes (rs ++ ss) ≡ allBytes rs ++ allBytes ss
-unfolding allBytes
-all-append [] ss = refl
-all-append (r ∷ rs) ss = rw (all-append rs ss) (sym (append-assoc (recordBytes r) (allBytes rs) (allBytes ss)))
-
-sets-append : (bs cs l : List ℕ) (i : ℕ) → sets (sets l i bs) (i + length bs) cs ≡ sets l i (bs ++ cs)
-sets-append [] cs l i = rw (add-zero i)
-sets-append (b ∷ bs) cs l i = rw (add-suc i (length bs), ← suc-add i (length bs)) (sets-append bs cs (set l i b) (suc i))
 
 writes-none : {tb : Table} {log : List ℕ} {o : Outcome} → o .table .used ≡ tb .used → o .log ≡ log → Writes tb log o
 unfolding allBytes written
@@ -65,7 +57,7 @@ unfolding written
 writes-then {tb} {log} {o} {o′} v w = record {
   records = v .records ++ w .records;
   used = rw (all-append (v .records) (w .records), length-append (allBytes (v .records)) (allBytes (w .records))) (omega (arith, v .used, w .used));
-  log-is = w .log-is ∙ rw (v .used, v .log-is) (sets-append (allBytes (v .records)) (allBytes (w .records)) log (tb .used)) ∙ ap (λ bs. written (tb .used) bs log) (sym (all-append (v .records) (w .records)));
+  log-is = w .log-is ∙ rw (v .used, v .log-is) (sym (sets-append log (tb .used) (allBytes (v .records)) (allBytes (w .records)))) ∙ ap (λ bs. written (tb .used) bs log) (sym (all-append (v .records) (w .records)));
 }
 
 writes-saying : {tb : Table} {log : List ℕ} {o : Outcome} (ss : List Signal) → Writes tb log o → Writes tb log (saying ss o)

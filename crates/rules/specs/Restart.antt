@@ -1,5 +1,6 @@
 -- Restart: from the lent log, whose length is the capacity, and the count of stored bytes to a table.
 use Prim.Native.Nat.{ℕ, suc, _+_, _*_, _-_}
+use mathlib.Core.Path.{_≡_}
 use mathlib.Core.Bool.{Bool, true, cond, not, _&&_, _||_}
 use mathlib.Core.List.{List, [], _∷_, _++_, map}
 use lib.Dec.{eqb, ltb, leb}
@@ -154,3 +155,7 @@ restartOf log stored =
 -- the answer as the code gives it
 abbrev pub restartedOf : Restart → Restarted
 restartedOf r = record { refusal = r .refusal; table = r .table }
+
+-- What `restart` promises: its answer, and the log as it leaves it.
+abbrev pub IsRestart : List ℕ → ℕ → Restarted → List ℕ → Type 0
+IsRestart log stored r after = (r ≡ restartedOf (restartOf log stored)) × (after ≡ restartOf log stored .log)

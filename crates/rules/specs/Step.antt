@@ -1,5 +1,6 @@
 -- A step: refused, or done.
 use Prim.Native.Nat.{ℕ}
+use mathlib.Core.Path.{_≡_}
 use mathlib.Core.Bool.{cond}
 use mathlib.Core.List.{List, []}
 use lib.Dec.{eqb}
@@ -35,3 +36,7 @@ stepOf tb e log =
 -- the answer as the code gives it
 abbrev pub answerOf : Step → Stepped
 answerOf s = record { refusal = s .refusal; table = s .table; signals = rowOf (s .signals) }
+
+-- What `step` promises: its answer, and the log as it leaves it.
+abbrev pub IsStep : Table → Event → List ℕ → Stepped → List ℕ → Type 0
+IsStep tb e log r after = (r ≡ answerOf (stepOf tb e log)) × (after ≡ stepOf tb e log .log)

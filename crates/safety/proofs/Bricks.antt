@@ -1,6 +1,6 @@
 -- No bricking: what is written to a log can be read back, and where it is cut there is room as there was before. So that a restart
 -- with the same capacity finds nothing to refuse.
-use Prim.Native.Nat.{ℕ, suc, _+_, _*_, _-_, _≤_, _<_}
+use Prim.Native.Nat.{ℕ, _+_, _*_, _-_, _≤_, _<_}
 use native.Mathlib.Omega.{arith}
 use mathlib.Core.Path.{_≡_, refl, sym, _∙_, ap, subst}
 use mathlib.Core.Logic.{_⊎_, inl, inr}
@@ -13,6 +13,7 @@ use borrow.Author.Tests.{le-ltb, ltb-true, ltb-false, eq-eqb}
 use Rattle.lists.specs.Lists.{filter}
 use Rattle.lists.specs.Members.{Each, Apart}
 use Rattle.lists.proofs.Tests.{by-test, by-either, no-clash, is-false, and-true, true-and, or-false, false-or, not-false, false-not, each-nothing, each-head, each-rest, filter-all}
+use Rattle.lists.proofs.Apart.{apart-head, apart-rest}
 use Rattle.rules.specs.declared.Table.{Table}
 use Rattle.rules.specs.declared.Event.{Event}
 use Rattle.rules.specs.Sizes.{headerSize, recordSize, transactionPlaces, enlistmentPlaces, leastCapacity, largestCapacity}
@@ -21,20 +22,20 @@ use Rattle.rules.specs.Table.{noTransaction, noEnlistment, freshOf}
 use Rattle.rules.specs.Sound.{soundOf, Sound}
 use Rattle.rules.specs.Log.{Record, header, recordBytes, allBytes, forgetSize, scan, behind, beginsNone}
 use Rattle.rules.specs.RefusalNumber as refusal
-use Rattle.rules.specs.Restart.{Open, isOpenAs, afterRecord, openAfter, isFitting, allFitting, entriesOpen, reopened, reenlistment, reenlistments, tableOf, Restart, refusedRestart, doneRestart, usedOf, isDamaged, isTooShort, readBack, isOutside, restartOf}
+use Rattle.rules.specs.Restart.{Open, isOpenAs, afterRecord, openAfter, isFitting, allFitting, entriesOpen, reopened, reenlistments, tableOf, Restart, refusedRestart, doneRestart, usedOf, isDamaged, isTooShort, readBack, isOutside, restartOf}
 use Rattle.rules.specs.Step.{stepOf}
 use Rattle.rules.proofs.Identifiers.{same-equal, equal-same}
-use Rattle.rules.proofs.Records.{Valid, valid-forget, torn-begins}
+use Rattle.rules.proofs.Records.{Valid, valid-forget, torn-begins, all-append}
 use Rattle.rules.proofs.Soundness.{sound-sentences, sentences-sound}
+use Rattle.rules.proofs.Restarts.{reenlistments-long}
 use Rattle.safety.specs.World.{World, usedPart, empty, afterStep, withDisk, afterLeaving, afterRestart}
 use Rattle.safety.specs.Host.{careful}
 use Rattle.safety.specs.Run.{Run, start, step, store, trim, leave, restart}
 use Rattle.safety.specs.Beyond.{NeverBricked}
 use Rattle.safety.proofs.Alone.{none}
 use Rattle.safety.proofs.Top.{Alive, Inv, inv, agrees}
-use Rattle.safety.proofs.Story.{storyOf, Formed, story-formed, mine, tells, valid-both, bytes-append}
+use Rattle.safety.proofs.Story.{storyOf, Formed, story-formed, mine, tells, valid-both}
 use Rattle.safety.proofs.View.{viewOf}
-use Rattle.safety.proofs.Given.{apart-head, apart-rest}
 use Rattle.safety.proofs.Open.{Fit, fit-nothing, fit-record, fit-all, open-both, fitting-both}
 use Rattle.safety.proofs.Fitting.{Ready}
 use Rattle.safety.proofs.Reopened.{reopened-sound}
@@ -110,7 +111,7 @@ readable-more tb log e g w r = record {
   formed = record {
     records = g .formed .records ++ w .records;
     valid = valid-both (g .formed .records) (w .records) (g .formed .valid) (w .valid);
-    bytes = w .bytes ∙ ap (λ l. l ++ allBytes (w .records)) (g .formed .bytes) ∙ append-assoc header (allBytes (g .formed .records)) (allBytes (w .records)) ∙ ap (λ l. header ++ l) (sym (bytes-append (g .formed .records) (w .records)));
+    bytes = w .bytes ∙ ap (λ l. l ++ allBytes (w .records)) (g .formed .bytes) ∙ append-assoc header (allBytes (g .formed .records)) (allBytes (w .records)) ∙ ap (λ l. header ++ l) (sym (all-append (g .formed .records) (w .records)));
   };
   fitting = fitting-both [] (g .formed .records) (w .records) ∙ and-true (g .fitting) (j .0);
   room = rw (open-both [] (g .formed .records) (w .records), k .bytes) (j .1);
@@ -144,14 +145,9 @@ many-transactions : (os : List Open) → length os ≤ transactionPlaces → (ca
 unfolding tableOf
 many-transactions os h capacity used = length-append (map reopened os) (replicate (transactionPlaces - length os) noTransaction) ∙ omega (arith, h, length-map os reopened, length-replicate (transactionPlaces - length os) noTransaction)
 
-as-entries : (k : ℕ) (os : List Open) → length (reenlistments k os) ≡ length (entriesOpen os)
-unfolding reenlistments entriesOpen
-as-entries k [] = refl
-as-entries k (o ∷ os) = length-append (map (reenlistment k) (o .entries)) (reenlistments (suc k) os) ∙ omega (arith, as-entries (suc k) os, length-map (o .entries) (reenlistment k), length-append (o .entries) (entriesOpen os))
-
 many-enlistments : (os : List Open) → length (entriesOpen os) ≤ enlistmentPlaces → (capacity used : ℕ) → length (tableOf capacity used os .enlistments) ≡ enlistmentPlaces
 unfolding tableOf
-many-enlistments os h capacity used = length-append (reenlistments 1 os) (replicate (enlistmentPlaces - length (reenlistments 1 os)) noEnlistment) ∙ omega (arith, h, as-entries 1 os, length-replicate (enlistmentPlaces - length (reenlistments 1 os)) noEnlistment)
+many-enlistments os h capacity used = length-append (reenlistments 1 os) (replicate (enlistmentPlaces - length (reenlistments 1 os)) noEnlistment) ∙ omega (arith, h, reenlistments-long 1 os, length-replicate (enlistmentPlaces - length (reenlistments 1 os)) noEnlistment)
 
 fresh-sound : (capacity : ℕ) → leastCapacity ≤ capacity → capacity ≤ largestCapacity → Sound (freshOf capacity)
 unfolding tableOf reenlistments
@@ -324,7 +320,7 @@ module _ (w : World) (g : Readable (w .table) (w .log)) (rest : List ℕ) (p : w
       used-is (w .table) (w .log) g,
       length-append header (allBytes kept-ones),
       ap (λ l. length (allBytes l)) split,
-      ap length (bytes-append kept-ones lost-ones),
+      ap length (all-append kept-ones lost-ones),
       length-append (allBytes kept-ones) (allBytes lost-ones),
       ap (λ l. length (openAfter [] l)) split,
       ap length (open-both [] kept-ones lost-ones),

@@ -24,10 +24,10 @@ use Rattle.rules.specs.Log.{Record, recordBytes, allBytes, forgetSize}
 use Rattle.rules.specs.Restart.{Open, isOpenAs, afterRecord, openAfter, allFitting}
 use Rattle.rules.specs.Events.{Outcome, quietly, append, endOf, endEach}
 use Rattle.rules.proofs.Identifiers.{same-refl, same-equal, other-not-same}
-use Rattle.rules.proofs.Records.{Valid, valid-forget}
+use Rattle.rules.proofs.Records.{Valid, valid-forget, all-append}
 use Rattle.rules.proofs.Frames.{held-other, held-transaction, named-is, Stands, Absent, at-other, at-changed, absent-ended, unnamed-ended, written-used, length-written, not-zero, named-place}
 use Rattle.safety.proofs.Alone.{Story, View, out}
-use Rattle.safety.proofs.Story.{next, story, story-append, onForget, valid-both, bytes-append}
+use Rattle.safety.proofs.Story.{next, story, story-append, onForget, valid-both}
 use Rattle.safety.proofs.Open.{open-both, fitting-both}
 use Rattle.safety.proofs.Fitting.{forget-fit, one-forgotten}
 use Rattle.safety.proofs.View.{state-none, viewOf, look, view-absent, ends-other, freed-keeps}
@@ -220,11 +220,6 @@ unfoldable pub forgets : List ℕ → Table → List ℕ → List Record
 forgets [] tb log = []
 forgets (p ∷ ps) tb log = forgetOf p tb ++ forgets ps (endOf p tb log .table) (endOf p tb log .log)
 
-pub each-silent : (ps : List ℕ) (tb : Table) (log : List ℕ) → endEach ps tb log .signals ≡ []
-unfolding endEach
-each-silent [] tb log = refl
-each-silent (p ∷ ps) tb log = each-silent ps (endOf p tb log .table) (endOf p tb log .log)
-
 pub each-valid : (ps : List ℕ) (tb : Table) (log : List ℕ) → Roomy tb log → Each Valid (forgets ps tb log)
 unfolding forgets
 each-valid [] tb log g = each-nothing Valid
@@ -236,7 +231,7 @@ each-bytes [] tb log g = sym (append-nil (take (tb .used) log))
 each-bytes (p ∷ ps) tb log g = each-bytes ps (endOf p tb log .table) (endOf p tb log .log) (ends-roomy p tb log g)
     ∙ ap (λ l. l ++ allBytes (forgets ps (endOf p tb log .table) (endOf p tb log .log))) (ends-bytes p tb log g)
     ∙ append-assoc (take (tb .used) log) (allBytes (forgetOf p tb)) (allBytes (forgets ps (endOf p tb log .table) (endOf p tb log .log)))
-    ∙ ap (λ l. take (tb .used) log ++ l) (sym (bytes-append (forgetOf p tb) (forgets ps (endOf p tb log .table) (endOf p tb log .log))))
+    ∙ ap (λ l. take (tb .used) log ++ l) (sym (all-append (forgetOf p tb) (forgets ps (endOf p tb log .table) (endOf p tb log .log))))
 
 -- what the ends are to a transaction: the view afterwards, and what they add to its story
 pub record Seen (t : Id) (ps : List ℕ) (tb : Table) (log : List ℕ) (v : View) (f : Story → Story) : Type 0 where

@@ -4,7 +4,7 @@ use Prim.Native.Nat.{ℕ, _+_, _*_, _≤_, _<_}
 use native.Mathlib.Omega.{arith}
 use mathlib.Core.Path.{_≡_, refl, sym, _∙_, ap}
 use mathlib.Core.Logic.{inl, inr}
-use mathlib.Core.Bool.{Bool, true, false, not, false≢true}
+use mathlib.Core.Bool.{true, false, not, false≢true}
 use mathlib.Core.List.{List, [], _∷_, _++_, map, List·Memᴰ·head, List·Memᴰ·tail, List·Memᴰ·cases-cons, List·Memᴰ·append-cases, List·Memᴰ·not-nil, Memᴰ·cast}
 use lib.ListN.{length, length-map, length-append}
 use lib.Dec.{eqb, ltb}
@@ -12,10 +12,10 @@ use borrow.Author.Tests.{eqb-false, eq-eqb, ne-eqb, lt-ltb, ltb-true, ltb-false}
 use Rattle.lists.specs.Lists.{any, filter}
 use Rattle.lists.specs.Members.{_∈_, Each, Some, Apart, nothing, more}
 use Rattle.lists.specs.Places.{placesWhere}
-use Rattle.lists.specs.Sorting.{insertBy, sortBy}
-use Rattle.lists.proofs.Tests.{by-test, by-either, no-clash, is-false, not-true, false-not, each-rest, in-filter, of-filter, in-map, of-map, any-some, some-any, count-filter, length-filter, each-none, apart-differ}
+use Rattle.lists.proofs.Tests.{by-test, by-either, no-clash, is-false, not-true, each-rest, in-filter, of-filter, in-map, of-map, any-some, some-any, count-filter, length-filter, each-none, apart-differ}
 use Rattle.lists.proofs.Places.{at-member, in-places, length-places}
-use Rattle.lists.proofs.Sorting.{Sorted, sorted-more, of-insert, of-sort}
+use Rattle.lists.proofs.Sorting.{Sorted, sorted-more}
+use Rattle.lists.proofs.Apart.{apart-head, apart-rest, apart-both, apart-map, no-more}
 use Rattle.rules.specs.declared.Enlistment.{Enlistment}
 use Rattle.rules.specs.declared.Table.{Table}
 use Rattle.rules.specs.TransactionState as transaction
@@ -35,29 +35,8 @@ use Rattle.safety.proofs.Alone.{Story, none, open-with, closed, bad, Vi
 use Rattle.safety.proofs.Top.{Agrees}
 use Rattle.safety.proofs.Story.{mine, Tells}
 use Rattle.safety.proofs.View.{viewOf, looks-committing, state-none}
-use Rattle.safety.proofs.Given.{apart-head, apart-rest, stands-sound, owner-held}
-use Rattle.safety.proofs.Open.{Fit, FitCommit, apart-both, apart-map, of-entries}
-
--- ── no more than the places ─────────────────────────────────────────────────────────────────────────────────────
-
-without : ℕ → List ℕ → List ℕ
-without p ps = filter (λ q. not (eqb q p)) ps
-
-one-less : (p : ℕ) (ps : List ℕ) → p ∈ ps → length (without p ps) < length ps
-unfolding without filter
-one-less p [] m = absurd (List·Memᴰ·not-nil m)
-one-less p (q ∷ ps) m = by-test (eqb q p)
-    (λ e. rw e (omega (arith, length-filter (λ q. not (eqb q p)) ps)))
-    (λ e. let ih : length (filter (λ q. not (eqb q p)) ps) < length ps = one-less p ps (by-either (λ c. absurd (eqb-false q p e (sym c))) (λ i. i) (List·Memᴰ·cases-cons m)) in rw e (omega (arith, ih)))
-
--- numbers that differ, and stand in a list, are no more than it has
-pub no-more : (qs ps : List ℕ) → Apart (λ p q. p ≡ q) qs → Each (λ q. q ∈ ps) qs → length qs ≤ length ps
-unfolding without
-no-more [] ps a h = omega arith
-no-more (q ∷ qs) ps a h = omega (arith, one-less q ps (h q (List·Memᴰ·head refl)), no-more qs (without q ps) (apart-rest a) (λ p m. kept p m))
-  where
-    kept : (p : ℕ) → p ∈ qs → p ∈ without q ps
-    kept p m = in-filter (λ p. not (eqb p q)) ps (h p (List·Memᴰ·tail m)) (false-not (ne-eqb p q (λ e. apart-head a p m (sym e))))
+use Rattle.safety.proofs.Given.{stands-sound, owner-held}
+use Rattle.safety.proofs.Open.{Fit, FitCommit, of-entries}
 
 -- ── what is ready for a record ──────────────────────────────────────────────────────────────────────────────────
 
@@ -217,19 +196,6 @@ ascends n [] s a h = refl
 ascends n (x ∷ ds) s a h = rw (lt-ltb n (x .number) (h x (List·Memᴰ·head refl))) (ascends (x .number) ds (sorted-rest s) (apart-rest a) (λ y m. by-test (ltb (x .number) (y .number))
     (λ t. ltb-true (x .number) (y .number) t)
     (λ t. absurd (apart-head a y m (omega (arith, ltb-false (x .number) (y .number) t, ltb-false (y .number) (x .number) (sorted-head s y m)))))))
-
-module _ {A : Type 0} {R : A → A → Type 0} (before : A → A → Bool) (flip : (x y : A) → R x y → R y x) where
-  apart-insert : (x : A) (ys : List A) → Each (λ y. R x y → ⊥) ys → Apart R ys → Apart R (insertBy before x ys)
-  unfolding insertBy
-  apart-insert x [] h a = more h nothing
-  apart-insert x (y ∷ ys) h a = by-test (before y x)
-      (λ t. rw t (more (λ z m r. by-either (λ e. h y (List·Memᴰ·head refl) (flip y x (rw e at r))) (λ i. apart-head a z i r) (List·Memᴰ·cases-cons (of-insert before x ys m))) (apart-insert x ys (each-rest h) (apart-rest a))))
-      (λ t. rw t (more h a))
-
-  pub apart-sort : (xs : List A) → Apart R xs → Apart R (sortBy before xs)
-  unfolding sortBy
-  apart-sort [] a = nothing
-  apart-sort (x ∷ xs) a = apart-insert x (sortBy before xs) (λ y m. apart-head a y (of-sort before xs m)) (apart-sort xs (apart-rest a))
 
 module _ (tb : Table) (log : List ℕ) (os : List Open) (r : Ready tb log os) (t : Id) (p : ℕ) (at : Stands t p tb) (undecided : stateAt p tb ≡ transaction.committing → ⊥) (closed-to : any (isOpenAs t) os ≡ false)
     (ds : List Enlistment) (came : Each (λ x. Some (λ y. (x .rm .0 ≡ y .rm .0) × (x .number ≡ y .number)) (held p tb)) ds)

@@ -1,17 +1,16 @@
 -- What an accepted step may take for granted of the table that it is given: it is sound, so that names stand at one place, a number is
 -- one enlistment's, and the state of an enlistment tells that of its transaction.
-use Prim.Native.Nat.{ℕ, suc}
+use Prim.Native.Nat.{ℕ}
 use mathlib.Core.Path.{_≡_, refl, sym, _∙_, ap}
 use mathlib.Core.Logic.{_⊎_, inl, inr}
-use mathlib.Core.Bool.{Bool, true, false}
-use mathlib.Core.List.{List, [], _∷_, List·Memᴰ·head, List·Memᴰ·tail, List·Memᴰ·cases-cons, List·Memᴰ·not-nil}
+use mathlib.Core.Bool.{true}
+use mathlib.Core.List.{List}
 use lib.Dec.{eqb}
 use lib.ListN.{length}
 use borrow.Author.Tests.{eqb-true, eqb-false, eq-eqb, ne-eqb}
-use Rattle.lists.specs.Members.{_∈_, Each, Apart, more}
+use Rattle.lists.specs.Members.{_∈_}
 use Rattle.lists.specs.Lists.{filter}
-use Rattle.lists.specs.Places.{atFrom}
-use Rattle.lists.proofs.Tests.{by-test, by-either, no-clash, not-true, false-not, in-filter, first-passes, some-any}
+use Rattle.lists.proofs.Tests.{by-either, no-clash, not-true, false-not, in-filter, first-passes, some-any}
 use Rattle.rules.specs.declared.Enlistment.{Enlistment}
 use Rattle.rules.specs.declared.Table.{Table}
 use Rattle.rules.specs.TransactionState as transaction
@@ -23,47 +22,8 @@ use Rattle.rules.specs.Sound.{Sound, HoldsWell, In, PhaseZero, Live, Held, acti
 use Rattle.rules.specs.Refusals.{isNumberHeld}
 use Rattle.rules.proofs.Frames.{of-held, in-held, named-is, is-named, named-place, by-place, not-zero, Stands}
 use Rattle.lists.proofs.Places.{at-member}
+use Rattle.lists.proofs.Apart.{apart-one, one-place}
 use Rattle.safety.specs.World.{ownerOf}
-
--- ── lists in which no two are alike ─────────────────────────────────────────────────────────────────────────────
-
-module _ {A : Type 0} {R : A → A → Type 0} where
-  pub apart-head : {x : A} {xs : List A} → Apart R (x ∷ xs) → Each (λ y. R x y → ⊥) xs
-  apart-head (more h a) = h
-
-  pub apart-rest : {x : A} {xs : List A} → Apart R (x ∷ xs) → Apart R xs
-  apart-rest (more h a) = a
-
-module _ {A : Type 0} {R : A → A → Type 0} (flip : (x y : A) → R x y → R y x) where
-  pub apart-equal : (xs : List A) → Apart R xs → {x y : A} → x ∈ xs → y ∈ xs → R x y → x ≡ y
-  apart-equal [] a m n r = absurd (List·Memᴰ·not-nil m)
-  apart-equal (z ∷ xs) a {x} {y} m n r = go (List·Memᴰ·cases-cons m) (List·Memᴰ·cases-cons n) (λ p q. apart-equal xs (apart-rest a) p q r)
-    where
-      go : (x ≡ z) ⊎ (x ∈ xs) → (y ≡ z) ⊎ (y ∈ xs) → (x ∈ xs → y ∈ xs → x ≡ y) → x ≡ y
-      go (inl p) (inl q) ih = p ∙ sym q
-      go (inl p) (inr q) ih = absurd (apart-head a y q (rw p at r))
-      go (inr p) (inl q) ih = absurd (apart-head a x p (flip x z (rw q at r)))
-      go (inr p) (inr q) ih = ih p q
-
-  module _ (f : A → Bool) (d : A) (unfit : f d ≡ false) where
-    at-in : (k p : ℕ) (xs : List A) → f (atFrom d k p xs) ≡ true → atFrom d k p xs ∈ filter f xs
-    unfolding atFrom filter
-    at-in k p [] e = no-clash (f d) e unfit
-    at-in k p (x ∷ xs) e = by-test (eqb k p)
-        (λ c. let t : f x ≡ true = rw c at e in rw (c, t) (List·Memᴰ·head refl))
-        (λ c. let m : atFrom d (suc k) p xs ∈ filter f xs = at-in (suc k) p xs (rw c at e) in by-test (f x) (λ t. rw (c, t) (List·Memᴰ·tail m)) (λ t. rw (c, t) m))
-
-    -- two places that pass and are alike are one
-    pub one-place : (k p q : ℕ) (xs : List A) → Apart R (filter f xs) → f (atFrom d k p xs) ≡ true → f (atFrom d k q xs) ≡ true → R (atFrom d k p xs) (atFrom d k q xs) → p ≡ q
-    unfolding atFrom filter
-    one-place k p q [] a u v r = no-clash (f d) u unfit
-    one-place k p q (x ∷ xs) a u v r = by-test (eqb k p)
-        (λ c. by-test (eqb k q)
-        (λ e. sym (eqb-true k p c) ∙ eqb-true k q e)
-        (λ e. let t : f x ≡ true = rw c at u in absurd (apart-head (rw t at a) (atFrom d (suc k) q xs) (at-in (suc k) q xs (rw e at v)) (rw (c, e) at r))))
-        (λ c. by-test (eqb k q)
-        (λ e. let t : f x ≡ true = rw e at v in absurd (apart-head (rw t at a) (atFrom d (suc k) p xs) (at-in (suc k) p xs (rw c at u)) (flip (atFrom d (suc k) p xs) x (rw (c, e) at r))))
-        (λ e. one-place (suc k) p q xs (by-test (f x) (λ t. apart-rest (rw t at a)) (λ t. rw t at a)) (rw c at u) (rw e at v) (rw (c, e) at r)))
 
 -- ── names and numbers ───────────────────────────────────────────────────────────────────────────────────────────
 
@@ -92,7 +52,7 @@ module _ (tb : Table) (s : Sound tb) where
   -- numbers differ, so that the enlistment with a number is the one
   pub numbered-is : (n : ℕ) → (n ≡ 0 → ⊥) → {x : Enlistment} → x ∈ tb .enlistments → x .number ≡ n → numbered n tb ≡ x
   unfolding numbered
-  numbered-is n nz {x} m e = apart-equal (λ a b r. sym r) (filter isHeld (tb .enlistments)) (s .numbers-differ) (in-held-ones (found .0) (numbered-held (found .0) (λ z. nz (sym is-n ∙ z)))) (in-held-ones m (numbered-held m (λ z. nz (sym e ∙ z)))) (is-n ∙ sym e)
+  numbered-is n nz {x} m e = apart-one (λ a b r. sym r) (s .numbers-differ) (in-held-ones (found .0) (numbered-held (found .0) (λ z. nz (sym is-n ∙ z)))) (in-held-ones m (numbered-held m (λ z. nz (sym e ∙ z)))) (is-n ∙ sym e)
     where
       found : (numbered n tb ∈ tb .enlistments) × (isNumbered n (numbered n tb) ≡ true)
       found = first-passes noEnlistment (isNumbered n) (tb .enlistments) (some-any (isNumbered n) (tb .enlistments) (record { it = x; there = m; holds = eq-eqb (x .number) n e }))

@@ -3,80 +3,21 @@ use Prim.Native.Nat.{ℕ, _+_, _≤_, _<_}
 use native.Mathlib.Omega.{arith}
 use mathlib.Core.Path.{_≡_, refl, sym, _∙_, ap}
 use mathlib.Core.Bool.{Bool, true, false, not, _&&_, false≢true}
-use mathlib.Core.List.{List, [], _∷_, _++_, map, append-assoc, append-nil, List·Memᴰ·head, List·Memᴰ·tail, List·Memᴰ·cases-cons, List·Memᴰ·append-cases, List·Memᴰ·not-nil, Memᴰ·append-left, Memᴰ·append-right}
+use mathlib.Core.List.{List, [], _∷_, _++_, append-nil, List·Memᴰ·head, List·Memᴰ·tail, List·Memᴰ·cases-cons, List·Memᴰ·append-cases, List·Memᴰ·not-nil, Memᴰ·append-left, Memᴰ·append-right}
 use lib.ListN.{length, length-append}
 use lib.Dec.{eqb, ltb, leb}
 use borrow.Author.Tests.{eq-eqb, ltb-true, leb-true, le-leb}
 use Rattle.lists.specs.Lists.{any, none, filter, differ}
 use Rattle.lists.specs.Members.{_∈_, Each, Some, Apart, nothing, more}
-use Rattle.lists.proofs.Tests.{by-test, by-either, no-clash, true-and, not-true, each-nothing, each-more, each-head, each-rest, in-filter, of-filter, of-map, none-each, some-any, length-filter, differ-apart}
+use Rattle.lists.proofs.Tests.{by-test, by-either, no-clash, true-and, not-true, each-nothing, each-more, each-head, each-rest, of-filter, none-each, some-any, length-filter, differ-apart}
+use Rattle.lists.proofs.Apart.{apart-both, apart-first, apart-second, apart-cross, apart-filter}
 use Rattle.rules.specs.Identifiers.{Id, isZero}
 use Rattle.rules.specs.Sizes.{identifierSize, heldMost, transactionPlaces, enlistmentPlaces}
 use Rattle.rules.specs.Log.{Entry, Record}
 use Rattle.rules.specs.Restart.{Open, isOpenAs, afterRecord, openAfter, entriesOpen, ascendFrom, sameEntryManager, isFitting, allFitting}
 use Rattle.rules.proofs.Identifiers.{equal-same}
 use Rattle.rules.proofs.Records.{ValidEntry, Valid, valid-commit}
-use Rattle.safety.proofs.Given.{apart-head, apart-rest}
-
--- ── lists in which no two are alike ─────────────────────────────────────────────────────────────────────────────
-
--- no one of the first is like one of the second
-abbrev pub Cross : {A : Type 0} → (A → A → Type 0) → List A → List A → Type 0
-Cross {A} R xs ys = (x y : A) → x ∈ xs → y ∈ ys → R x y → ⊥
-
-module _ {A : Type 0} {R : A → A → Type 0} where
-  pub apart-both : (xs ys : List A) → Apart R xs → Apart R ys → Cross R xs ys → Apart R (xs ++ ys)
-  apart-both [] ys a b c = b
-  apart-both (x ∷ xs) ys a b c = more (λ y m r. by-either (λ i. apart-head a y i r) (λ i. c x y (List·Memᴰ·head refl) i r) (List·Memᴰ·append-cases xs m)) (apart-both xs ys (apart-rest a) b (λ u v m n. c u v (List·Memᴰ·tail m) n))
-
-  pub apart-first : (xs ys : List A) → Apart R (xs ++ ys) → Apart R xs
-  apart-first [] ys a = nothing
-  apart-first (x ∷ xs) ys a = more (λ y m r. apart-head a y (Memᴰ·append-left ys m) r) (apart-first xs ys (apart-rest a))
-
-  pub apart-second : (xs ys : List A) → Apart R (xs ++ ys) → Apart R ys
-  apart-second [] ys a = a
-  apart-second (x ∷ xs) ys a = apart-second xs ys (apart-rest a)
-
-  pub apart-cross : (xs ys : List A) → Apart R (xs ++ ys) → Cross R xs ys
-  apart-cross [] ys a x y m n r = List·Memᴰ·not-nil m
-  apart-cross (z ∷ xs) ys a x y m n r = by-either (λ e. apart-head a y (Memᴰ·append-right xs n) (rw e at r)) (λ i. apart-cross xs ys (apart-rest a) x y i n r) (List·Memᴰ·cases-cons m)
-
-  pub apart-filter : (f : A → Bool) (xs : List A) → Apart R xs → Apart R (filter f xs)
-  unfolding filter
-  apart-filter f [] a = nothing
-  apart-filter f (x ∷ xs) a = by-test (f x)
-      (λ t. rw t (more (λ y m r. apart-head a y (of-filter f xs m .0) r) (apart-filter f xs (apart-rest a))))
-      (λ t. rw t (apart-filter f xs (apart-rest a)))
-
-pub apart-as : {A : Type 0} {R S : A → A → Type 0} → ((x y : A) → S x y → R x y) → (xs : List A) → Apart R xs → Apart S xs
-apart-as f [] a = nothing
-apart-as f (x ∷ xs) a = more (λ y m r. apart-head a y m (f x y r)) (apart-as f xs (apart-rest a))
-
-pub apart-map : {A B : Type 0} {R : B → B → Type 0} (g : A → B) (xs : List A) → Apart (λ x y. R (g x) (g y)) xs → Apart R (map g xs)
-apart-map g [] a = nothing
-apart-map {A} {B} {R} g (x ∷ xs) a = more (λ y m r. go y (of-map g xs m) r) (apart-map g xs (apart-rest a))
-  where
-    go : (y : B) → Some (λ w. g w ≡ y) xs → R (g x) y → ⊥
-    go y s r = apart-head a (s .it) (s .there) (rw (s .holds) r)
-
--- what passes a narrower test is no more alike
-pub apart-narrower : {A : Type 0} {R S : A → A → Type 0} (f h : A → Bool) → ((x : A) → h x ≡ true → f x ≡ true) → ((x y : A) → h x ≡ true → h y ≡ true → S x y → R x y)
-    → (xs : List A) → Apart R (filter f xs) → Apart S (filter h xs)
-unfolding filter
-apart-narrower f h i c [] a = nothing
-apart-narrower {R = R} f h i c (x ∷ xs) a = by-test (h x)
-    (λ t. let b : Apart R (x ∷ filter f xs) = rw (i x t) at a in
-    rw t (more (λ y m r. apart-head b y (in-filter f xs (of-filter h xs m .0) (i y (of-filter h xs m .1))) (c x y t (of-filter h xs m .1) r)) (apart-narrower f h i c xs (apart-rest b))))
-    (λ t. rw t (apart-narrower f h i c xs (by-test (f x) (λ u. apart-rest {x = x} (rw u at a)) (λ u. rw u at a))))
-
-filter-map : {A B : Type 0} (h : B → Bool) (g : A → B) (xs : List A) → filter h (map g xs) ≡ map g (filter (λ x. h (g x)) xs)
-unfolding filter
-filter-map h g [] = refl
-filter-map h g (x ∷ xs) = by-test (h (g x)) (λ t. rw t (ap (λ l. g x ∷ l) (filter-map h g xs))) (λ t. rw t (filter-map h g xs))
-
-pub apart-changed : {A : Type 0} {R S : A → A → Type 0} (f h : A → Bool) (g : A → A) → ((x : A) → h (g x) ≡ true → f x ≡ true) → ((x y : A) → h (g x) ≡ true → h (g y) ≡ true → S (g x) (g y) → R x y)
-    → (xs : List A) → Apart R (filter f xs) → Apart S (filter h (map g xs))
-apart-changed {S = S} f h g i c xs a = rw (filter-map h g xs) (apart-map g (filter (λ x. h (g x)) xs) (apart-narrower f (λ x. h (g x)) i c xs a))
+use Rattle.rules.proofs.Restarts.{entries-append}
 
 -- ── what is known of the open ones ──────────────────────────────────────────────────────────────────────────────
 
@@ -100,11 +41,6 @@ pub record Fit (os : List Open) : Type 0 where
 pub fit-nothing : Fit []
 unfolding entriesOpen
 fit-nothing = record { id-sizes = each-nothing _; ids = each-nothing _; ids-apart = nothing; entries = each-nothing _; numbers-apart = nothing; few = omega arith; few-entries = omega arith }
-
-entries-both : (os qs : List Open) → entriesOpen (os ++ qs) ≡ entriesOpen os ++ entriesOpen qs
-unfolding entriesOpen
-entries-both [] qs = refl
-entries-both (o ∷ os) qs = ap (λ l. o .entries ++ l) (entries-both os qs) ∙ sym (append-assoc (o .entries) (entriesOpen os) (entriesOpen qs))
 
 pub in-entries : (os : List Open) {o : Open} {d : Entry} → o ∈ os → d ∈ o .entries → d ∈ entriesOpen os
 unfolding entriesOpen
@@ -234,7 +170,7 @@ fit-commit os t es k (valid-commit a b c d) f = record {
     o = record { id = t; entries = es }
 
     all-entries : entriesOpen (os ++ (o ∷ [])) ≡ entriesOpen os ++ es
-    all-entries = entries-both os (o ∷ []) ∙ ap (λ l. entriesOpen os ++ l) (append-nil es)
+    all-entries = entries-append os (o ∷ []) ∙ ap (λ l. entriesOpen os ++ l) (append-nil es)
 
     only : (y : Open) → y ∈ o ∷ [] → y ≡ o
     only y n = by-either (λ e. e) (λ i. absurd (List·Memᴰ·not-nil i)) (List·Memᴰ·cases-cons n)

@@ -14,6 +14,7 @@ use Rattle.lists.specs.Lists.{all, any, none, filter}
 use Rattle.lists.specs.Sorting.{insertBy, sortBy}
 use Rattle.lists.proofs.Tests.{by-test, by-either, no-clash, true-and, not-true, not-false, in-filter, of-filter, length-filter, in-map, of-map, all-each, any-some, some-any, none-each, each-nothing, each-more, each-head, each-rest, each-map}
 use Rattle.lists.proofs.Sorting.{in-sort, of-sort, length-sort, sorted-sort, orders-by, orders-numbers}
+use Rattle.lists.proofs.Apart.{apart-filter, apart-sort}
 use Rattle.rules.specs.declared.Enlistment.{Enlistment}
 use Rattle.rules.specs.declared.Table.{Table}
 use Rattle.rules.specs.declared.Event.{Event}
@@ -33,6 +34,7 @@ use Rattle.rules.specs.Events.{Outcome, quietly, saying, append, endOf, endIfDo
 use Rattle.rules.proofs.Identifiers.{same-refl, equal-same, other-not-same}
 use Rattle.rules.proofs.Records.{ValidEntry, Valid, valid-commit, valid-forget}
 use Rattle.rules.proofs.Frames.{Keeps, held-came, held-own, named-is, named-other, written-used, Stands, stands-goes, state-goes}
+use Rattle.rules.proofs.Parts.{used-emptied}
 use Rattle.safety.specs.World.{Note, noteOf, messageOf, subjectOf}
 use Rattle.safety.specs.Host.{Prepares, Closes, careful, Makes}
 use Rattle.safety.proofs.Alone as alone
@@ -41,8 +43,8 @@ use Rattle.safety.proofs.Move.{Calm, NotEnlisted, VoteOf, Doomed, d-vot
 use Rattle.safety.proofs.Top.{Agrees}
 use Rattle.safety.proofs.Story.{next, story, onForget, mine, Tells}
 use Rattle.safety.proofs.View.{viewOf, look, view-stands, view-goes, goes-other, view-ends, ends-other, view-more, stands-held}
-use Rattle.safety.proofs.Open.{FitCommit, fits-commit, apart-filter}
-use Rattle.safety.proofs.Fitting.{Ready, Judged, judged-nothing, mine-none, mine-some, open-shown, shown-open, open-count, commit-fit, apart-sort, live-nonzero, forget-fit, one-forgotten}
+use Rattle.safety.proofs.Open.{FitCommit, fits-commit}
+use Rattle.safety.proofs.Fitting.{Ready, Judged, judged-nothing, mine-none, mine-some, open-shown, shown-open, open-count, commit-fit, live-nonzero, forget-fit, one-forgotten}
 use Rattle.safety.proofs.Messages.{notCommitted, notAborted, Only, only-nothing, only-one, only-each, only-both, Addressed, Owned, owned-about, addressed-nothing, addressed-one, addressed-each, addressed-both, none-committed, none-aborted, quiet}
 
 pub by-cases : {A : Type 0} (P : A → Type 0) (b : Bool) (x y : A) → (b ≡ true → P x) → (b ≡ false → P y) → P (cond b x y)
@@ -63,10 +65,6 @@ pub record Own (tb : Table) (e : Event) (log : List ℕ) (t : Id) (o : Outcome) 
       → Move t h (noteOf tb e) (map (messageOf tb e) (o .signals)) l (story t l records) (viewOf t tb) (viewOf t (o .table))
 
 -- ── ends of which no record is written ──────────────────────────────────────────────────────────────────────────
-
-pub used-emptied : (p : ℕ) (tb : Table) → emptied p tb .used ≡ tb .used
-unfolding changeHeld changeTransaction
-used-emptied p tb = refl
 
 pub used-goes : (p s : ℕ) (f : Enlistment → Enlistment) (tb : Table) → goTo p s (changeHeld p f tb) .used ≡ tb .used
 unfolding changeHeld changeTransaction

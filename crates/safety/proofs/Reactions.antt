@@ -13,6 +13,7 @@ use Rattle.lists.specs.Members.{_∈_, Some, Apart}
 use Rattle.lists.specs.Lists.{any, filter}
 use Rattle.lists.proofs.Tests.{by-test, by-either, no-clash, and-true, true-and, true-or, not-true, false-not, any-some, some-any, filter-filter}
 use Rattle.lists.proofs.Places.{in-places}
+use Rattle.lists.proofs.Apart.{apart-narrower, apart-changed}
 use Rattle.rules.specs.declared.Enlistment.{Enlistment}
 use Rattle.rules.specs.declared.Table.{Table}
 use Rattle.rules.specs.declared.TxId.{TxId}
@@ -41,6 +42,7 @@ use Rattle.rules.specs.Signals.{toApp}
 use Rattle.rules.specs.Events.{Outcome, quietly, saying, toVote, toReply, toLost, reactionOf, follow, react}
 use Rattle.rules.specs.Refusals.{isRefused}
 use Rattle.rules.proofs.Frames.{of-held, held-came, held-own, held-shorter, named-is, named-other, named-place, not-zero, Stands}
+use Rattle.rules.proofs.Parts.{used-emptied}
 use Rattle.safety.specs.World.{Note, ownerOf, told, noteOf, messageOf, subjectOf}
 use Rattle.safety.specs.Host.{Prepares, Closes}
 use Rattle.safety.specs.Demand3.{Votes, Yes}
@@ -50,9 +52,8 @@ use Rattle.safety.proofs.Move.{Calm, NotEnlisted, VoteOf, Doomed, d-ear
 use Rattle.safety.proofs.Top.{Agrees}
 use Rattle.safety.proofs.View.{viewOf, look, view-stands, view-changes, view-held-other, view-ends, state-held, stands-held}
 use Rattle.safety.proofs.Given.{id-size, owner-held, Row, in-active, in-zero, in-voting, in-single, in-commit, in-abort, Named}
-use Rattle.safety.proofs.Open.{apart-narrower, apart-changed}
 use Rattle.safety.proofs.Messages.{notCommitted, notAborted, only-nothing, only-one, Owned, addressed-nothing, addressed-one, none-committed, none-aborted, quiet}
-use Rattle.safety.proofs.Own.{by-cases, Own, Touched, unlogged, unlogged-end, used-emptied, ends-for, own-abort, Voted, own-decide, own-end-aborting, own-end-committing, own-start}
+use Rattle.safety.proofs.Own.{by-cases, Own, Touched, unlogged, unlogged-end, ends-for, own-abort, Voted, own-decide, own-end-aborting, own-end-committing, own-start}
 
 -- ── the state of the transaction, by that of its enlistment ─────────────────────────────────────────────────────
 

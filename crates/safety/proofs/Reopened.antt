@@ -12,6 +12,7 @@ use Rattle.lists.specs.Lists.{filter}
 use Rattle.lists.specs.Members.{_∈_, Each, Some, Apart, nothing, more}
 use Rattle.lists.specs.Places.{atFrom, placesFrom}
 use Rattle.lists.proofs.Tests.{by-test, by-either, no-clash, false-not, each-head, each-rest, in-map, of-map, filter-append, filter-all, filter-none, length-filter}
+use Rattle.lists.proofs.Apart.{apart-head, apart-rest, apart-both, apart-first, apart-second, apart-cross, apart-filter, apart-map}
 use Rattle.rules.specs.declared.Transaction.{Transaction}
 use Rattle.rules.specs.declared.Enlistment.{Enlistment}
 use Rattle.rules.specs.declared.Table.{Table}
@@ -24,8 +25,7 @@ use Rattle.rules.specs.Log.{Entry}
 use Rattle.rules.specs.Restart.{Open, entriesOpen, reopened, reenlistment, reenlistments, tableOf}
 use Rattle.rules.proofs.Identifiers.{equal-zero}
 use Rattle.rules.proofs.Frames.{of-held, in-held}
-use Rattle.safety.proofs.Given.{apart-head, apart-rest}
-use Rattle.safety.proofs.Open.{FitEntries, Fit, apart-both, apart-first, apart-second, apart-cross, apart-filter, apart-map, in-entries}
+use Rattle.safety.proofs.Open.{FitEntries, Fit, in-entries}
 
 -- ── places that are left over ───────────────────────────────────────────────────────────────────────────────────
 

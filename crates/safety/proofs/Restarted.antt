@@ -1,9 +1,9 @@
 -- The table of every accepted restart is sound, whatever log it was given: the judgements say of the open transactions what soundness asks, and 13 leaves room
 -- for their forget records.
-use Prim.Native.Nat.{ℕ, _+_, _*_, _≤_, _<_}
+use Prim.Native.Nat.{ℕ, _<_}
 use native.Mathlib.Omega.{arith}
 use mathlib.Core.Path.{_≡_}
-use mathlib.Core.Bool.{Bool, not}
+use mathlib.Core.Bool.{not}
 use mathlib.Core.List.{List, []}
 use lib.ListN.{length, take, drop}
 use borrow.Author.Tests.{ltb-false}

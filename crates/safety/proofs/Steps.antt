@@ -33,6 +33,7 @@ use Rattle.rules.proofs.Records.{Valid}
 use Rattle.rules.proofs.Checks as checks
 use Rattle.rules.proofs.Checks.{accepted}
 use Rattle.rules.proofs.Refused.{step-done, step-refusal, refused-step}
+use Rattle.rules.proofs.Count.{end-each-quiet}
 use Rattle.safety.specs.World.{Note, ownerOf, told, noteOf, messageOf, subject, subjectOf, usedPart}
 use Rattle.safety.specs.Host.{careful, Makes}
 use Rattle.safety.proofs.Alone.{Story}
@@ -46,7 +47,7 @@ use Rattle.safety.proofs.Messages.{quiet-other}
 use Rattle.safety.proofs.Own.{Own}
 use Rattle.safety.proofs.Reactions.{Reacts, reacts-zero-done, reacts-vote, reacts-reply, reacts-ack, reacts-to-lost}
 use Rattle.safety.proofs.Calls.{own-begin, own-enlist, own-commit, own-rollback, own-ask}
-use Rattle.safety.proofs.Ends.{forgets, each-silent, each-valid, each-bytes}
+use Rattle.safety.proofs.Ends.{forgets, each-valid, each-bytes}
 use Rattle.safety.proofs.Reenlisted.{after, ps, reenlisted-is, roomy-after, reenlisted-move, reenlisted-judged}
 
 -- ── notes of one transaction are calm for every other ───────────────────────────────────────────────────────────
@@ -130,7 +131,7 @@ reenlisted-all tb x y log s full f = rw (reenlisted-is (y .0) tb log s full) (re
     formed = rw bytes (formed-append (usedPart tb log) f rs valid);
     added = allBytes rs;
     appended = bytes;
-    moves = λ h made t a. rw (bytes, story-more t (usedPart tb log) f rs valid, each-silent places table log) (reenlisted-move (y .0) tb log s full t h (storyOf t (usedPart tb log)) a);
+    moves = λ h made t a. rw (bytes, story-more t (usedPart tb log) f rs valid, end-each-quiet places table log) (reenlisted-move (y .0) tb log s full t h (storyOf t (usedPart tb log)) a);
   };
 })
   where

@@ -13,10 +13,10 @@ use Rattle.lists.specs.Members.{Each}
 use Rattle.lists.proofs.Tests.{by-test, by-either, no-clash, each-nothing, each-head, each-rest, filter-append, filter-filter, filter-same, filter-none}
 use Rattle.rules.specs.Identifiers.{Id, sameBytes}
 use Rattle.rules.specs.Sizes.{headerSize}
-use Rattle.rules.specs.Log.{Entry, Record, header, recordBytes, allBytes, scan}
+use Rattle.rules.specs.Log.{Entry, Record, header, allBytes, scan}
 use Rattle.rules.specs.Restart.{Open, isOpenAs, afterRecord, openAfter}
 use Rattle.rules.proofs.Identifiers.{same-refl, same-equal}
-use Rattle.rules.proofs.Records.{Valid, valid-commit, torn-nothing, scan-all, Begins, scan-longer}
+use Rattle.rules.proofs.Records.{Valid, valid-commit, torn-nothing, scan-all, Begins, scan-longer, all-append}
 use Rattle.safety.proofs.Alone.{Story, none, open-with, closed, bad, Below, below-refl, below-trans}
 
 -- ── stories ─────────────────────────────────────────────────────────────────────────────────────────────────────
@@ -103,16 +103,11 @@ valid-both a b v w r m = by-either (v r) (w r) (List·Memᴰ·append-cases a m)
 pub valid-front : (a b : List Record) → Each Valid (a ++ b) → Each Valid a
 valid-front a b v r m = v r (Memᴰ·append-left b m)
 
-pub bytes-append : (a b : List Record) → allBytes (a ++ b) ≡ allBytes a ++ allBytes b
-unfolding allBytes
-bytes-append [] b = refl
-bytes-append (x ∷ a) b = ap (λ l. recordBytes x ++ l) (bytes-append a b) ∙ sym (append-assoc (recordBytes x) (allBytes a) (allBytes b))
-
 pub formed-append : (bs : List ℕ) (f : Formed bs) (rs : List Record) → Each Valid rs → Formed (bs ++ allBytes rs)
 formed-append bs f rs v = record {
   records = f .records ++ rs;
   valid = valid-both (f .records) rs (f .valid) v;
-  bytes = ap (λ l. l ++ allBytes rs) (f .bytes) ∙ append-assoc header (allBytes (f .records)) (allBytes rs) ∙ ap (λ l. header ++ l) (sym (bytes-append (f .records) rs));
+  bytes = ap (λ l. l ++ allBytes rs) (f .bytes) ∙ append-assoc header (allBytes (f .records)) (allBytes rs) ∙ ap (λ l. header ++ l) (sym (all-append (f .records) rs));
 }
 
 pub story-more : (t : Id) (bs : List ℕ) (f : Formed bs) (rs : List Record) → Each Valid rs → storyOf t (bs ++ allBytes rs) ≡ story t (storyOf t bs) rs

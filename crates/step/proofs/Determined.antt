@@ -5,11 +5,7 @@ use mathlib.Core.List.{List}
 use Rattle.rules.specs.declared.Table.{Table}
 use Rattle.rules.specs.declared.Event.{Event}
 use Rattle.rules.specs.declared.Stepped.{Stepped}
-use Rattle.rules.specs.Step.{stepOf, answerOf}
+use Rattle.rules.specs.Step.{IsStep}
 
--- what `step` ensures of its answer and of the log as it leaves it
-abbrev pub Meets : Table → Event → List ℕ → Stepped → List ℕ → Type 0
-Meets tb e log r after = (r ≡ answerOf (stepOf tb e log)) × (after ≡ stepOf tb e log .log)
-
-pub step-determined : (tb : Table) (e : Event) (log : List ℕ) {r s : Stepped} {after later : List ℕ} → Meets tb e log r after → Meets tb e log s later → (r ≡ s) × (after ≡ later)
+pub step-determined : (tb : Table) (e : Event) (log : List ℕ) {r s : Stepped} {after later : List ℕ} → IsStep tb e log r after → IsStep tb e log s later → (r ≡ s) × (after ≡ later)
 step-determined tb e log (p, q) (u, v) = (p ∙ sym u, q ∙ sym v)

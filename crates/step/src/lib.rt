@@ -9,7 +9,7 @@ ghost use Rattle.rules.specs.Table.{freshOf};
 ghost use Rattle.rules.specs.Sound.{soundOf};
 ghost use Rattle.rules.specs.Events.{acceptedOf};
 ghost use Rattle.rules.specs.Refusals.{refusalOf};
-ghost use Rattle.rules.specs.Step.{refusedStep, stepOf, answerOf};
+ghost use Rattle.rules.specs.Step.{IsStep, refusedStep, answerOf};
 ghost use Rattle.endings.specs.Gives.{Gives};
 use endings::Accepted;
 use rules::Act;
@@ -68,7 +68,7 @@ fn refused(table: Table, why: u8) -> Stepped
 }
 
 pub fn step(table: Table, event: Event, log: &mut [u8]) -> Stepped
-    ensures { λ r. ⌜ (r ≡ answerOf (stepOf table event (now (log .entry)))) × (now (log .exit) ≡ stepOf table event (now (log .entry)) .log) ⌝ }
+    ensures { λ r. ⌜ IsStep table event (now (log .entry)) r (now (log .exit)) ⌝ }
 {
     let sound = sound::is_sound(table);
     let length = log.len();

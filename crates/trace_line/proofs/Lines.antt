@@ -1,9 +1,9 @@
 -- The whole output line: its parts behind one another are the line of the definition, and the longest has 494 bytes, since each number has at most
 -- ten digits, a refusal three, a count two, and a name at most 16 bytes.
-use Prim.Native.Nat.{ℕ, zero, suc, _+_, _*_, _≤_, _<_, min}
+use Prim.Native.Nat.{ℕ, _+_, _*_, _≤_, _<_, min}
 use native.Mathlib.Omega.{arith}
 use native.Mathlib.Nat.{zero-add}
-use mathlib.Core.Path.{_≡_, refl, sym, _∙_, ap}
+use mathlib.Core.Path.{_≡_, refl, sym, _∙_}
 use mathlib.Core.List.{List, [], _∷_, _++_}
 use lib.ListN.{length, set, take, drop, replicate, length-append, length-take}
 use lib.Dec.{leb}
@@ -14,7 +14,8 @@ use Rattle.rules.specs.declared.Signal.{Signal}
 use Rattle.rules.specs.declared.Signals.{Signals}
 use Rattle.rules.specs.declared.Name.the-variants as name
 use Rattle.rules.specs.Sizes.{signalsMost, largestNumber}
-use Rattle.rules.specs.Signals.{signal, padded, rowOf}
+use Rattle.rules.specs.Signals.{signal, rowOf}
+use Rattle.rules.proofs.Count.{pad-take}
 use Rattle.rules.specs.Trace.{space, text, nameText, digits, decimal, signalTexts, outputOf}
 use Rattle.trace_line.specs.Puts.{Puts, signalText, digitsMost, signalMost}
 use Rattle.trace_line.specs.Promises.{IsWriting, signalsOf, newline, outputLine, outputMost}
@@ -90,13 +91,6 @@ line-first why used signals before h l e =
     rw (sets-eq (outputLine why used signals) before 0 (omega (arith, output-fits why used signals h l)), zero-add)
 
 -- ── signals as an answer holds them ─────────────────────────────────────────────────────────────────────────────
-
-pub pad-take : (k : ℕ) (ss : List Signal) → length ss ≤ k → take (length ss) (padded k ss) ≡ ss
-unfolding padded
-pad-take zero [] h = refl
-pad-take zero (s ∷ ss) h = absurd (omega arith)
-pad-take (suc k) [] h = refl
-pad-take (suc k) (s ∷ ss) h = ap (λ l. s ∷ l) (pad-take k ss (omega arith))
 
 -- the signals of a row are those that it was made of, so that its line is theirs
 pub row-output : (why used : ℕ) (ss : List Signal) → length ss ≤ signalsMost → outputLine why used (rowOf ss) ≡ outputOf why used ss ++ (newline ∷ [])

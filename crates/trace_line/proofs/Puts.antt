@@ -16,11 +16,7 @@ use Rattle.rules.specs.Trace.{text, nameText, decimal, signalTexts}
 use Rattle.trace_line.specs.declared.Decimal.{Decimal}
 use Rattle.trace_line.proofs.Digits.{most-digits}
 use Rattle.lists.proofs.Loops.{drop-at, drop-done}
-
-sets-append : {A : Type 0} (l : List A) (at : ℕ) (xs ys : List A) → sets l at (xs ++ ys) ≡ sets (sets l at xs) (at + length xs) ys
-sets-append l at [] ys = let e : at + 0 ≡ at = omega arith in rw e
-sets-append l at (x ∷ xs) ys =
-    let e : at + suc (length xs) ≡ suc at + length xs = omega arith in rw e (sets-append (set l at x) (suc at) xs ys)
+use Rattle.lists.proofs.Stores.{sets-append}
 
 pub put-both : {xs ys before middle after : List ℕ} {at between end : ℕ} → Puts xs before at between middle → Puts ys middle between end after
     → Puts (xs ++ ys) before at end after

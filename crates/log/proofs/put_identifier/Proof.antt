@@ -1,7 +1,7 @@
 -- The bytes are stored in their order.
 use Prim.Native.Nat.{_-_}
 use borrow.Author.Needs.{needs}
-use Rattle.log.proofs.Stores.{Stored, store-start, store-again, store-done}
+use Rattle.lists.proofs.Stores.{Stored, store-start, store-again, store-done}
 use Rattle.log.proofs.put_identifier.Statement.{statement}
 use Rattle.log.proofs.put_identifier.Tie as tie
 

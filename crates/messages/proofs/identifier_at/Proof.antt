@@ -1,14 +1,14 @@
 -- A loop that stores the 16 bytes into zeros, one a turn.
 use Prim.Native.Nat.{ℕ, _+_, _-_, _≤_, _<_}
-use mathlib.Core.Path.{_≡_, sym, _∙_}
+use mathlib.Core.Path.{_≡_, sym, _∙_, ap₂}
 use mathlib.Core.List.{List, append-nil}
 use native.Mathlib.Omega.{arith}
 use borrow.Author.Needs.{needs}
-use lib.ListN.{length, getD, drop, length-drop}
+use lib.ListN.{length, getD, set, drop, length-drop}
 use lib.Seq.{sets, sets-eq, length-take-le, getD-take, getD-drop}
 use Rattle.rules.specs.Messages.{identifierIn}
 use Rattle.rules.specs.Identifiers.{zeroId}
-use Rattle.messages.proofs.Stores.{Stored, store-start, store-again, store-done}
+use Rattle.lists.proofs.Stores.{Stored, store-start, store-again, store-done}
 use Rattle.messages.proofs.identifier_at.Statement.{statement}
 use Rattle.messages.proofs.identifier_at.Tie as tie
 
@@ -34,5 +34,5 @@ identifier-at-spec =
     (λ c. search needs)
     (λ c. search needs)
     (λ c. search needs)
-    (λ c. store-again (c .before .before .loop .inv) (c .before .loop-test .taken) (omega arith) (byte (c .before .before .before .args .bytes .now) (c .before .before .before .args .start) (c .before .before .loop .i) (c .before .loop-test .taken)))
+    (λ c. store-again (c .before .before .loop .inv) (c .before .loop-test .taken) (ap₂ (λ k b. set (c .before .before .loop .id) k b) (omega arith) (byte (c .before .before .before .args .bytes .now) (c .before .before .before .args .start) (c .before .before .loop .i) (c .before .loop-test .taken))))
     (λ c. store-done (c .before .loop .inv) (c .loop-test .left) ∙ over _ (c .before .loop .inv .long)))

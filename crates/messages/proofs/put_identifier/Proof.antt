@@ -2,7 +2,7 @@
 use Prim.Native.Nat.{_-_}
 use mathlib.Core.Path.{refl}
 use borrow.Author.Needs.{needs}
-use Rattle.messages.proofs.Stores.{Stored, store-start, store-again, store-done}
+use Rattle.lists.proofs.Stores.{Stored, store-start, store-again, store-done}
 use Rattle.messages.proofs.put_identifier.Statement.{statement}
 use Rattle.messages.proofs.put_identifier.Tie as tie
 
@@ -18,6 +18,6 @@ put-identifier-spec =
     (λ c. search needs)
     (λ c. search needs)
     (λ c. search needs)
-    (λ c. store-again (c .before .loop .inv) (c .loop-test .taken) refl refl)
+    (λ c. store-again (c .before .loop .inv) (c .loop-test .taken) refl)
     (λ c. c .before .loop .inv .size)
     (λ c. (store-done (c .before .loop .inv) (c .loop-test .left), c .before .loop .inv .long)))

@@ -12,7 +12,7 @@ use lib.Seq.{sets}
 use Rattle.rules.specs.declared.Message.{Message}
 use Rattle.rules.specs.Messages.{payloadOf, payloadBytes, managerPayload, transactionPayload}
 use Rattle.rules.proofs.MessageLaws.{Sized, manager, transaction, nothing, payload-sized}
-use Rattle.messages.proofs.Stores.{sets-append}
+use Rattle.lists.proofs.Stores.{sets-append}
 use Rattle.messages.proofs.put_payload.Statement.{statement}
 use Rattle.messages.proofs.put_payload.Tie as tie
 
