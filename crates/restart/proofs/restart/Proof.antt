@@ -2,7 +2,8 @@
 use native.Mathlib.Omega.{arith}
 use mathlib.Core.Path.{refl, sym, _∙_}
 use borrow.Author.Needs.{needs}
-use Rattle.restart.proofs.Answers.{inside, outside-is, begun-is, not-begun-is, headed-is, not-headed-is, read-leaves, header-written}
+use Rattle.rules.proofs.Restarts.{inside}
+use Rattle.restart.proofs.Answers.{outside-is, begun-is, not-begun-is, headed-is, not-headed-is, read-leaves, header-written}
 use Rattle.restart.proofs.restart.Statement.{statement}
 use Rattle.restart.proofs.restart.Tie as tie
 
