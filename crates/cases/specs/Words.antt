@@ -35,9 +35,6 @@ commit t = step (event act.Commit t 0)
 abbrev pub rollback : ℕ → Call
 rollback t = step (event act.Rollback t 0)
 
-abbrev pub zdone : ℕ → Call
-zdone n = step (event (act.ZeroDone n) 0 0)
-
 abbrev pub vote : ℕ → Vote → Call
 vote n v = step (event (act.Vote n v) 0 0)
 

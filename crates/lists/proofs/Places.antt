@@ -97,14 +97,7 @@ module _ {A : Type 0} (f : A → A) where
   change-from k p zero d (x ∷ xs) e = rw (eq-eqb k p (omega arith)) (ap (λ l. f x ∷ l) (change-below (suc k) p xs (omega arith)))
   change-from k p (suc i) d (x ∷ xs) e = rw (ne-eqb k p (omega arith)) (ap (λ l. x ∷ l) (change-from (suc k) p i d xs (omega arith)))
 
-  -- place 0 is none
-  pub change-zero : (xs : List A) → changeAt 0 f xs ≡ xs
-  change-zero xs = change-below 1 0 xs (omega arith)
-
   -- past the end too, where both sides are the list
-  pub change-suc : (i : ℕ) (d : A) (xs : List A) → changeAt (suc i) f xs ≡ set xs i (f (getD xs i d))
-  change-suc i d xs = change-from 1 (suc i) i d xs (omega arith)
-
   pub change-is : (p : ℕ) (d : A) (xs : List A) → changeAt p f xs ≡ cond (eqb p 0) xs (set xs (p - 1) (f (getD xs (p - 1) d)))
   change-is p d xs = by-test (eqb p 0)
       (λ e. rw e (change-below 1 p xs (omega (arith, eqb-true p 0 e))))
@@ -201,9 +194,6 @@ module _ {A : Type 0} (empty : A → Bool) (x : A) where
 
   pub put-is : (xs : List A) → putLowest empty x xs ≡ changeAt (placeOf empty xs) (λ y. x) xs
   put-is xs = put-from 1 xs (omega arith)
-
-  pub put-set : (i : ℕ) (xs : List A) → placeOf empty xs ≡ suc i → putLowest empty x xs ≡ set xs i x
-  put-set i xs e = put-is xs ∙ rw e (change-suc (λ y. x) i x xs)
 
   pub length-put : (xs : List A) → length (putLowest empty x xs) ≡ length xs
   unfolding putLowest

@@ -48,10 +48,6 @@ and-false true b (inl p) = absurd (true≢false p)
 and-false true b (inr q) = q
 and-false false b h = refl
 
-pub false-and : (a b : Bool) → (a && b) ≡ false → (a ≡ false) ⊎ (b ≡ false)
-false-and true b e = inr e
-false-and false b e = inl refl
-
 pub or-true : (a b : Bool) → (a ≡ true) ⊎ (b ≡ true) → (a || b) ≡ true
 or-true true b h = refl
 or-true false b (inl p) = absurd (false≢true p)
@@ -117,9 +113,6 @@ module _ {A : Type 0} where
   pub some-cases : {P : A → Type 0} {x : A} {xs : List A} → Some P (x ∷ xs) → P x ⊎ Some P xs
   some-cases {P} {x} {xs} s = by-either (λ e. inl (subst P e (s .holds))) (λ m. inr (record { it = s .it; there = m; holds = s .holds })) (List·Memᴰ·cases-cons (s .there))
 
-  pub some-not : {P : A → Type 0} {xs : List A} → Each (λ x. P x → ⊥) xs → Some P xs → ⊥
-  some-not h s = h (s .it) (s .there) (s .holds)
-
 -- ── all, any ────────────────────────────────────────────────────────────────────────────────────────────────────
 
 module _ {A : Type 0} (f : A → Bool) where
@@ -179,10 +172,6 @@ module _ {A : Type 0} (f : A → Bool) where
   of-filter {x} (y ∷ xs) m = by-test (f y)
       (λ p. by-either (λ q. (List·Memᴰ·head q, ap f q ∙ p)) (λ q. (List·Memᴰ·tail (of-filter xs q .0), of-filter xs q .1)) (List·Memᴰ·cases-cons (rw p at m)))
       (λ p. let q : x ∈ filter f xs = rw p at m in (List·Memᴰ·tail (of-filter xs q .0), of-filter xs q .1))
-
-  -- a test of those that pass is a test of all
-  pub each-filter : {P : A → Type 0} (xs : List A) → Each P (filter f xs) → Each (λ x. f x ≡ true → P x) xs
-  each-filter xs h x m e = h x (in-filter xs m e)
 
   pub filter-each : {P : A → Type 0} (xs : List A) → Each (λ x. f x ≡ true → P x) xs → Each P (filter f xs)
   filter-each xs h x m = h x (of-filter xs m .0) (of-filter xs m .1)

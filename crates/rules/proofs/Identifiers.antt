@@ -33,14 +33,6 @@ equal-same a b e = rw e (same-refl b)
 pub other-not-same : (a b : List ℕ) → (a ≡ b → ⊥) → sameBytes a b ≡ false
 other-not-same a b n = is-false (sameBytes a b) (λ e. n (same-equal a b e))
 
-pub not-same-other : (a b : List ℕ) → sameBytes a b ≡ false → a ≡ b → ⊥
-not-same-other a b e q = true≢false (sym (equal-same a b q) ∙ e)
-
-pub same-sym : (a b : List ℕ) → sameBytes a b ≡ sameBytes b a
-same-sym a b = by-test (sameBytes a b)
-    (λ e. e ∙ sym (equal-same b a (sym (same-equal a b e))))
-    (λ e. e ∙ sym (other-not-same b a (λ q. not-same-other a b e (sym q))))
-
 -- ── zero ────────────────────────────────────────────────────────────────────────────────────────────────────────
 
 zeros : (t : List ℕ) → isZero t ≡ true → t ≡ replicate (length t) 0

@@ -21,3 +21,4 @@ pub mod Count
 pub mod Preserved
 pub mod MessageLaws
 pub mod Restarts
+pub mod Ordered

@@ -13,7 +13,7 @@ use Rattle.lists.specs.Members.{_∈_, Each, Some, Apart}
 use Rattle.lists.specs.Lists.{all, any, none, filter}
 use Rattle.lists.specs.Sorting.{insertBy, sortBy}
 use Rattle.lists.proofs.Tests.{by-test, by-either, no-clash, true-and, not-true, not-false, in-filter, of-filter, length-filter, in-map, of-map, all-each, any-some, some-any, none-each, each-nothing, each-more, each-head, each-rest, each-map}
-use Rattle.lists.proofs.Sorting.{in-sort, of-sort, length-sort, sorted-sort, orders-by, orders-numbers}
+use Rattle.lists.proofs.Sorting.{in-sort, of-sort, length-sort}
 use Rattle.lists.proofs.Apart.{apart-filter, apart-sort}
 use Rattle.rules.specs.declared.Enlistment.{Enlistment}
 use Rattle.rules.specs.declared.Table.{Table}
@@ -35,6 +35,7 @@ use Rattle.rules.proofs.Identifiers.{same-refl, equal-same, other-not-same}
 use Rattle.rules.proofs.Records.{ValidEntry, Valid, valid-commit, valid-forget}
 use Rattle.rules.proofs.Frames.{Keeps, held-came, held-own, named-is, named-other, written-used, Stands, stands-goes, state-goes}
 use Rattle.rules.proofs.Parts.{used-emptied}
+use Rattle.rules.proofs.Ordered.{by-number-ascends}
 use Rattle.safety.specs.World.{Note, noteOf, messageOf, subjectOf}
 use Rattle.safety.specs.Host.{Prepares, Closes, careful, Makes}
 use Rattle.safety.proofs.Alone as alone
@@ -307,7 +308,7 @@ module _ (tb : Table) (e : Event) (log : List ℕ) (t : Id) (p : ℕ) (tb₁ : T
 
           fit : (os : List Open) → Ready tb log os → FitCommit os t entries
           fit os r = commit-fit tb log os r t p (z .before) undecided (closed-to os r) ds (λ x m. z .came x (of-filter isDurable hs₁ (of-sort byNumber (filter isDurable hs₁) m) .0))
-              (sorted-sort (orders-by (λ (y : Enlistment). y .number) orders-numbers) (filter isDurable hs₁))
+              (by-number-ascends (filter isDurable hs₁))
               (apart-sort byNumber (λ x y r. sym r) (filter isDurable hs₁) (apart-filter isDurable hs₁ (z .numbers-apart)))
               (apart-sort byNumber (λ x y r. sym r) (filter isDurable hs₁) (z .managers-apart))
 
