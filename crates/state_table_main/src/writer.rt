@@ -9,7 +9,7 @@ use rules::kinds;
 use rules::marks;
 use trace_line::OUTPUT;
 
-fn put(out: &mut [u8], at: usize, b: u8) -> usize {
+pub fn put(out: &mut [u8], at: usize, b: u8) -> usize {
     if at < out.len() {
         out[at] = b;
         at + 1
@@ -261,8 +261,7 @@ pub fn changed(out: &mut [u8], at: usize, log: &[u8], b: u8) -> usize {
     hex(out, colon, log, from, to)
 }
 
-pub fn show(out: &mut [u8], at: usize) {
-    let end = put(out, at, b'\n');
+pub fn show(out: &[u8], end: usize) {
     if end <= out.len() {
         io::write_all(STDOUT_FILENO, &out[..end]);
     }
