@@ -15,7 +15,7 @@ pub struct Row {
 }
 
 // A number, and the place behind it.
-struct Counted {
+struct Number {
     value: u32,
     next: usize,
 }
@@ -55,7 +55,7 @@ fn extended(n: u32, b: u8) -> u32 {
     10 * n + (b - b'0') as u32
 }
 
-fn numeral(line: &[u8], at: usize) -> Counted {
+fn numeral(line: &[u8], at: usize) -> Number {
     let mut value: u32 = 0;
     let mut i = at;
     while i < line.len() {
@@ -65,10 +65,10 @@ fn numeral(line: &[u8], at: usize) -> Counted {
             value = extended(value, b);
             i += 1;
         } else {
-            return Counted { value, next: i };
+            return Number { value, next: i };
         }
     }
-    Counted { value, next: i }
+    Number { value, next: i }
 }
 
 fn identifier(n: u32) -> [u8; 16] {
