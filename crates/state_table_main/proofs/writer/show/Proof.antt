@@ -1,0 +1,16 @@
+-- The part that is written is as long as it says.
+use native.Mathlib.Omega.{arith}
+use mathlib.Core.Path.{sym}
+use borrow.Author.Needs.{needs}
+use lib.Seq.{length-take-le}
+use Rattle.state_table_main.proofs.writer.show.Statement.{statement}
+use Rattle.state_table_main.proofs.writer.show.Tie as tie
+
+pub show-spec : {M : Type 1} → statement M
+show-spec =
+    tie.close
+    (tie.spec
+    (λ c. sym (length-take-le _ _ (omega arith)))
+    (λ c κs. search needs)
+    (λ c. search needs)
+    (λ c. search needs))
