@@ -5,7 +5,7 @@ ghost use mathlib.Core.Bool.{not, _&&_};
 ghost use mathlib.Core.List.{map};
 ghost use Rattle.lists.specs.Places.{placeOf};
 ghost use Rattle.rules.specs.EnlistmentState.{failedToNotify};
-ghost use Rattle.rules.specs.Table.{heldBy, isIn, isDurableOf, onHeld, changeHeld, withEnlistments};
+ghost use Rattle.rules.specs.Table.{heldBy, isIn, isDurableOf, changeHeld, withEnlistments};
 ghost use Rattle.rules.specs.Events.{isUndone, toldAgain, doneFor};
 use rules::Enlistment;
 use rules::Table;
@@ -112,18 +112,14 @@ pub fn place_elsewhere(table: Table, rm: [u8; 16]) -> u8
     0
 }
 
-fn told_again(e: Enlistment, p: u8, rm: [u8; 16]) -> Enlistment
-    ensures { λ r. ⌜ r ≡ onHeld p (toldAgain rm) e ⌝ }
+fn told_again(e: Enlistment, rm: [u8; 16]) -> Enlistment
+    ensures { λ r. ⌜ r ≡ toldAgain rm e ⌝ }
 {
-    let mine = e.holder == p;
     let undone = is_undone(e, rm);
     let failed = e.state == enlistment_state::FAILED_TO_NOTIFY;
-    if mine {
-        if undone {
-            if failed {
-                return passes::in_state(e, enlistment_state::TOLD_COMMIT);
-            }
-            return e;
+    if undone {
+        if failed {
+            return passes::in_state(e, enlistment_state::TOLD_COMMIT);
         }
         return e;
     }
@@ -137,10 +133,14 @@ pub fn tell_again(table: Table, p: u8, rm: [u8; 16]) -> Table
     let mut u = table;
     let mut i: usize = 0;
     while i < 128 {
-        let e = u.enlistments[i];
-        let f = told_again(e, p, rm);
-        u.enlistments[i] = f;
+        let k = i;
+        let e = u.enlistments[k];
+        let mine = e.holder == p;
         i += 1;
+        if mine {
+            let f = told_again(e, rm);
+            u.enlistments[k] = f;
+        }
     }
     u
 }

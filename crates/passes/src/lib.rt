@@ -27,7 +27,7 @@ pub struct Census {
 }
 
 // One more if so.
-fn more(n: u8, so: bool) -> u8
+pub fn more(n: u8, so: bool) -> u8
     requires { ⌜ n < 128 ⌝ }
     ensures { λ r. ⌜ r ≡ moreOf so n ⌝ }
 {
@@ -188,23 +188,21 @@ fn changed(e: Enlistment, change: Change) -> Enlistment
     }
 }
 
-fn changed_held(e: Enlistment, p: u8, change: Change) -> Enlistment
-    ensures { λ r. ⌜ r ≡ onHeld p (changeOf change) e ⌝ }
-{
-    let mine = e.holder == p;
-    if mine { changed(e, change) } else { e }
-}
-
 pub fn change_held(table: Table, p: u8, change: Change) -> Table
     ensures { λ r. ⌜ r ≡ changeHeld p (changeOf change) table ⌝ }
 {
     let mut u = table;
     let mut i: usize = 0;
     while i < 128 {
-        let e = u.enlistments[i];
-        let f = changed_held(e, p, change);
-        u.enlistments[i] = f;
+        let k = i;
+        let e = u.enlistments[k];
+        let mine = e.holder == p;
         i += 1;
+        // A store for each place, changed or not, would cost more than the whole pass.
+        if mine {
+            let f = changed(e, change);
+            u.enlistments[k] = f;
+        }
     }
     u
 }

@@ -1,4 +1,5 @@
 pub mod Turns
+pub mod Heaps
 pub mod Rowing
 pub mod Laws
 pub mod Fused

@@ -4,7 +4,7 @@ use borrow.Author.Needs.{needs}
 use Rattle.lists.proofs.Loops.{long}
 use Rattle.rules.specs.Table.{onHeld, changeHeld}
 use Rattle.rules.specs.Events.{toldAgain}
-use Rattle.passes.proofs.Passed.{Passed, pass-start, pass-again, pass-done}
+use Rattle.passes.proofs.Passed.{Passed, pass-start, pass-held, pass-other, pass-done}
 use Rattle.managers.proofs.tell_again.Statement.{statement}
 use Rattle.managers.proofs.tell_again.Tie as tie
 
@@ -18,10 +18,12 @@ tell-again-spec =
     (λ c. pass-start (search long))
     (λ c. search needs)
     (λ c. search needs)
+    (λ c. search needs)
     (λ c κs. search needs)
     (λ c. search needs)
     (λ c. search needs)
     (λ c. search needs)
+    (λ c. pass-held _ _ _ (c .before .before .before .before .before .loop .inv) (c .before .before .before .before .loop-test .taken) (c .before .if1 .taken) (c .told-again .ensures))
     (λ c. search needs)
-    (λ c. pass-again _ (c .before .before .before .loop .inv) (c .before .before .loop-test .taken) (c .told-again .ensures))
+    (λ c. pass-other _ _ _ (c .before .before .before .before .loop .inv) (c .before .before .before .loop-test .taken) (c .if1 .left))
     (λ c. pass-done (c .before .loop .inv) (c .loop-test .left)))

@@ -4,7 +4,7 @@ use borrow.Author.Needs.{needs}
 use Rattle.lists.proofs.Loops.{long}
 use Rattle.rules.specs.Table.{onHeld, changeHeld}
 use Rattle.passes.specs.Change.{changeOf}
-use Rattle.passes.proofs.Passed.{Passed, pass-start, pass-again, pass-done}
+use Rattle.passes.proofs.Passed.{Passed, pass-start, pass-held, pass-other, pass-done}
 use Rattle.passes.proofs.change_held.Statement.{statement}
 use Rattle.passes.proofs.change_held.Tie as tie
 
@@ -18,10 +18,12 @@ change-held-spec =
     (λ c. pass-start (search long))
     (λ c. search needs)
     (λ c. search needs)
+    (λ c. search needs)
     (λ c κs. search needs)
     (λ c. search needs)
     (λ c. search needs)
     (λ c. search needs)
+    (λ c. pass-held _ _ _ (c .before .before .before .before .before .loop .inv) (c .before .before .before .before .loop-test .taken) (c .before .if1 .taken) (c .changed .ensures))
     (λ c. search needs)
-    (λ c. pass-again _ (c .before .before .before .loop .inv) (c .before .before .loop-test .taken) (c .changed-held .ensures))
+    (λ c. pass-other _ _ _ (c .before .before .before .before .loop .inv) (c .before .before .before .loop-test .taken) (c .if1 .left))
     (λ c. pass-done (c .before .loop .inv) (c .loop-test .left)))
