@@ -1,0 +1,54 @@
+-- The line as it is kept is obeyed as the line is, and its output line stands behind what waited.
+use Prim.Native.Nat.{ℕ, _+_, _≤_}
+use native.Mathlib.Omega.{arith}
+use mathlib.Core.Path.{_≡_, refl, sym, ap, _∙_}
+use mathlib.Core.List.{List, [], _∷_, _++_}
+use lib.ListN.{length, take}
+use Rattle.rules.specs.Trace.{Traced, tracedOf}
+use Rattle.trace_line.specs.Promises.{newline, outputMost}
+use Rattle.trace_line.specs.Puts.{Puts}
+use Rattle.trace_run.specs.declared.Obeyed.{Obeyed}
+use Rattle.trace_run.specs.Promises.{Obeys}
+use Rattle.trace.specs.declared.Session.{Session}
+use Rattle.trace.specs.Sessions.{Stand, Stands, Fits, Ready, Answers, answered, lineKept, room}
+use Rattle.trace.proofs.Memory.{put-long, put-taken}
+use Rattle.trace.proofs.Kept.{traced-kept}
+
+module _ {t : Traced} {before after log : List ℕ} {o : Obeyed} (p : Obeys t before o log after) (l : length before ≡ outputMost) where
+  pub output-there : take (o .size) after ≡ t .output ++ (newline ∷ [])
+  output-there =
+      let q : Puts (t .output ++ (newline ∷ [])) before 0 (o .size) after = record { ends = omega (arith, p .sized); same = p .bytes } in
+      put-taken q (omega (arith, p .sized, p .within))
+
+  pub output-long : length after ≡ outputMost
+  output-long =
+      let q : Puts (t .output ++ (newline ∷ [])) before 0 (o .size) after = record { ends = omega (arith, p .sized); same = p .bytes } in
+      put-long q ∙ l
+
+pub answer-stands : {s : Session} {log line output buffer log′ output′ buffer′ : List ℕ} {o : Obeyed} {n : ℕ}
+    → Ready s line output → length buffer ≡ outputMost
+    → Obeys (tracedOf (take (s .kept) line) (s .table) log) buffer o log′ buffer′
+    → Puts (take (o .size) buffer′) output (s .waiting) n output′
+    → Answers s log line output (record { table = o .table; kept = 0; taken = s .taken; waiting = n; writable = s .writable }) log′ output′
+unfolding answered
+answer-stands {s} {log} {line} {output} {buffer} {log′} {output′} {buffer′} {o} {n} r l p q =
+    let there = output-there p l in
+    let size : length (take (o .size) buffer′) ≡ o .size = rw there (sym (p .sized)) in
+    record {
+      fits = record {
+        kept = omega arith;
+        waiting = omega (arith, q .ends, p .within, r .free);
+        line-long = r .fits .line-long;
+        output-long = put-long q ∙ r .fits .output-long;
+      };
+      taken = refl;
+      same = λ w h.
+          let e : tracedOf (take (s .kept) line) (s .table) log ≡ tracedOf (w .line) (w .table) (w .log) =
+          rw (h .present, h .table, h .stored) (traced-kept (w .line) (w .table) (w .log)) in
+          record {
+            table = p .table ∙ ap (λ x. x .table) e;
+            stored = p .left ∙ ap (λ x. x .log) e;
+            present = refl;
+            printed = put-taken q (omega (arith, p .within, r .free, r .fits .output-long)) ∙ rw (h .printed, there, e);
+          };
+    }

@@ -1,0 +1,6 @@
+pub mod Memory
+pub mod Kept
+pub mod Answered
+pub mod Bytes
+pub mod Taken
+pub mod Turns

@@ -1,0 +1,80 @@
+-- A part of the block, up to its first newline, is taken.
+use Prim.Native.Nat.{ℕ, zero, suc, _+_, _-_, _≤_, _<_}
+use native.Mathlib.Omega.{arith}
+use mathlib.Core.Path.{_≡_, refl, sym, ap, _∙_}
+use mathlib.Core.List.{List, [], _∷_, _++_}
+use lib.ListN.{length, take, drop, length-drop}
+use lib.Seq.{take-length}
+use Rattle.trace.specs.declared.Session.{Session}
+use Rattle.bytes.specs.Bytes.{indexOf, slice}
+use Rattle.trace_line.specs.Promises.{newline}
+use Rattle.trace.specs.Sessions.{Stand, Stands, Ready, Keeps, Answers, Takes, answered, withMore, afterBytes, part, lineKept}
+use Rattle.trace.proofs.Bytes.{after-plain, after-line}
+
+take-more : (n : ℕ) (a b : List ℕ) → take n (take n a ++ b) ≡ take n (a ++ b)
+take-more zero a b = refl
+take-more (suc n) [] b = refl
+take-more (suc n) (x ∷ xs) b = ap (_∷_ x) (take-more n xs b)
+
+pub more-stands : {w : Stand} {s r : Session} {log line output more line′ : List ℕ}
+    → Keeps (s .kept) line more (r .kept) line′ → r .table ≡ s .table → r .waiting ≡ s .waiting
+    → Stands w s log line output → Stands (withMore w more) r log line′ output
+more-stands {w} {more = more} k t p h =
+    record {
+      table = t ∙ h .table;
+      stored = h .stored;
+      present = k .same ∙ rw (h .present) (take-more lineKept (w .line) more);
+      printed = rw p (h .printed);
+    }
+
+-- where the first newline from an index on stands, as `find` gives it
+module _ (block : List ℕ) (from end : ℕ) (found : end ≡ from + indexOf newline (slice from (length block) block)) (within : from ≤ length block) where
+  to-newline : end - from ≡ indexOf newline (drop from block)
+  unfolding slice
+  to-newline = omega (arith, rw take-length at found)
+
+  pub after-rest : (w : Stand) → afterBytes w (part from end block) ≡ withMore w (part from end block)
+  after-rest w = rw to-newline (after-plain w (drop from block))
+
+  pub after-whole : (w : Stand) → end < length block → from ≤ end → afterBytes w (part from (end + 1) block) ≡ answered (withMore w (part from end block))
+  after-whole w h k =
+      let e : end + 1 - from ≡ indexOf newline (drop from block) + 1 = omega (arith, to-newline) in
+      rw (e, to-newline) (after-line w (drop from block) (simp length-drop (omega (arith, to-newline))))
+
+abbrev lengthened : Session → ℕ → ℕ → Session
+lengthened s kept taken = record { table = s .table; kept = kept; taken = taken; waiting = s .waiting; writable = s .writable }
+
+module _ {s : Session} {block log line output line′ : List ℕ} {end kept : ℕ}
+    (ready : Ready s line output) (within : s .taken ≤ length block)
+    (found : end ≡ s .taken + indexOf newline (slice (s .taken) (length block) block))
+    (keeps : Keeps (s .kept) line (part (s .taken) end block) kept line′)
+  where
+    pub line-taken : {r : Session} {log′ output′ : List ℕ} → end < length block → Answers (lengthened s kept (end + 1)) log line′ output r log′ output′
+        → Takes s block log line output r log′ line′ output′
+    line-taken {r} {log′} {output′} h a =
+        let t : r .taken ≡ end + 1 = a .taken in
+        record {
+          fits = a .fits;
+          onward = omega (arith, found);
+          within = omega arith;
+          some = λ q. omega (arith, found);
+          same = λ w q.
+              let e : afterBytes w (part (s .taken) (r .taken) block) ≡ answered (withMore w (part (s .taken) end block)) =
+              rw t (after-whole block (s .taken) end found within w h (omega (arith, found))) in
+              rw e (a .same (withMore w (part (s .taken) end block)) (more-stands keeps refl refl q));
+        }
+
+    pub rest-taken : length block ≤ end → end ≤ length block → Takes s block log line output (lengthened s kept end) log line′ output
+    rest-taken h k =
+        record {
+          fits = record {
+            kept = keeps .within;
+            waiting = ready .fits .waiting;
+            line-long = keeps .long;
+            output-long = ready .fits .output-long;
+          };
+          onward = omega (arith, found);
+          within = k;
+          some = λ q. omega arith;
+          same = λ w q. rw (after-rest block (s .taken) end found within w) (more-stands keeps refl refl q);
+        }

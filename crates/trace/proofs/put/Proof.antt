@@ -1,0 +1,26 @@
+-- What is left of the bytes, stored behind what was stored, gives all of them at their place; a store leaves the buffer as long as it was.
+use Prim.Native.Nat.{_-_}
+use native.Mathlib.Omega.{arith}
+use borrow.Author.Needs.{needs}
+use mathlib.Core.Path.{_≡_, refl}
+use lib.ListN.{length, length-set}
+use Rattle.trace_line.proofs.Puts.{Putting, putting-start, putting-again, putting-done}
+use Rattle.trace.proofs.put.Statement.{statement}
+use Rattle.trace.proofs.put.Tie as tie
+
+pub put-spec : {M : Type 1} → statement M
+put-spec =
+    tie.close
+    (tie.spec
+    (λ buffer₀ at bytes i₀ buffer i. Putting bytes buffer₀ at buffer i × (length buffer ≡ length buffer₀))
+    (λ buffer₀ at bytes i₀ buffer i. length bytes - i)
+    (λ c. (putting-start, refl))
+    (λ c. search needs)
+    (λ c. search needs)
+    (λ c. search needs)
+    (λ c. search needs)
+    (λ c. search needs)
+    (λ c. (putting-again (c .before .before .loop .inv .0) (c .before .loop-test .taken), simp length-set (c .before .before .loop .inv .1)))
+    (λ c. search needs)
+    (λ c. search needs)
+    (λ c. putting-done (c .before .loop .inv .0) (c .loop-test .left)))

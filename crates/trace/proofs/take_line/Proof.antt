@@ -1,0 +1,32 @@
+-- What stands before the newline lengthens the line, and the newline has it answered; without one there is only more of the line.
+use borrow.Author.Needs.{needs}
+use Rattle.trace.proofs.Taken.{line-taken, rest-taken}
+use Rattle.trace.proofs.take_line.Statement.{statement}
+use Rattle.trace.proofs.take_line.Tie as tie
+
+pub take-line-spec : {M : Type 1} → statement M
+take-line-spec =
+    tie.close
+    (tie.spec
+    (λ c κs. search needs)
+    (λ c. search needs)
+    (λ c. search needs)
+    (λ c. search needs)
+    (λ c κs. search needs)
+    (λ c. search needs)
+    (λ c κs. search needs)
+    (λ c. search needs)
+    (λ c. search needs)
+    (λ c. search needs)
+    (λ c.
+    let t = c .before .before .before .before .before .before .before .before in
+    let k = t .before .before .before in
+    let f = k .before .before .before in
+    let s = f .before .before .before .before .before in
+    line-taken (s .pre .0) (s .pre .1) (f .find .ensures .0) (k .keep .ensures) (t .if1 .taken) (c .before .before .before .before .answer .ensures))
+    (λ c. search needs)
+    (λ c.
+    let k = c .before .before .before in
+    let f = k .before .before .before in
+    let s = f .before .before .before .before .before in
+    rest-taken (s .pre .0) (s .pre .1) (f .find .ensures .0) (k .keep .ensures) (c .if1 .left) (f .find .ensures .1)))

@@ -1,0 +1,28 @@
+-- Each turn takes some of the block. The loop ends where the block does, or where no room is left, which is not before the first turn.
+use Prim.Native.Nat.{_-_}
+use native.Mathlib.Omega.{arith}
+use lib.ListN.{length}
+use borrow.Author.Needs.{needs}
+use Rattle.trace.proofs.Turns.{Taking, taking-start, taking-again, taking-done}
+use Rattle.trace.proofs.take_lines.Statement.{statement}
+use Rattle.trace.proofs.take_lines.Tie as tie
+
+pub take-lines-spec : {M : Type 1} → statement M
+take-lines-spec =
+    tie.close
+    (tie.spec
+    (λ block log₀ line₀ output₀ s₀ log line output s. Taking block log₀ line₀ output₀ s₀ log line output s)
+    (λ block log₀ line₀ output₀ s₀ log line output s. length block - s .taken)
+    (λ c. let s = c .before .before .before .before in taking-start (s .pre .0 .fits) (s .pre .1))
+    (λ c. search needs)
+    (λ c. search needs)
+    (λ c. search needs)
+    (λ c. search needs)
+    (λ c. taking-done (c .before .before .before .before .loop .inv) (λ h e. omega (arith, c .before .before .before .before .before .before .before .before .before .pre .0 .free, c .if2 .taken)))
+    (λ c κs. let l = c .before .before .before .before .before .before .before in (record { fits = l .loop .inv .fits; free = c .before .before .before .if2 .left }, l .loop .inv .within))
+    (λ c. omega (arith, c .before .before .before .before .before .before .take-line .ensures .some (c .before .before .before .before .before .before .before .before .before .before .before .before .if1 .taken)))
+    (λ c. taking-again (c .before .before .before .before .before .before .before .before .before .before .before .before .before .before .loop .inv) (c .before .before .before .before .before .before .before .before .before .before .before .before .if1 .taken) (search needs) (c .before .before .before .before .before .before .take-line .ensures))
+    (λ c. search needs)
+    (λ c. search needs)
+    (λ c. search needs)
+    (λ c. taking-done (c .before .before .loop .inv) (λ h e. omega (arith, c .if1 .left))))

@@ -1,0 +1,203 @@
+// The trace program: obeys the lines of standard input on an empty 4,096-byte log, and writes one line for each.
+
+ghost use mathlib.Core.Path.{_≡_};
+ghost use Prim.Native.Nat.{_+_, _≤_, _<_, min};
+ghost use lib.ListN.{length};
+ghost use Rattle.trace_line.specs.Puts.{Puts};
+ghost use Rattle.trace.specs.Sessions.{Fits, Ready, Keeps, Answers, Takes, Writes, TakesAll, lineKept};
+use libc::STDIN_FILENO;
+use libc::STDOUT_FILENO;
+use rules::Table;
+use rules::sizes;
+use trace_line::OUTPUT;
+
+// A line is kept with one byte more than it may have, so that one that is too long is seen as such, however long it is.
+const KEPT: usize = sizes::LINE + 1;
+
+// Output is written in blocks of about this size.
+const ROOM: usize = 16384;
+
+const NEWLINE: u8 = b'\n';
+
+const CAPACITY: usize = 4096;
+
+// The table; how many bytes of the present line are kept, of the present block are taken, and of output wait; and whether the output still
+// takes any.
+struct Session {
+    table: Table,
+    kept: usize,
+    taken: usize,
+    waiting: usize,
+    writable: bool,
+}
+
+fn least(a: usize, b: usize) -> usize
+    ensures { λ r. ⌜ r ≡ min a b ⌝ }
+{
+    if a < b { a } else { b }
+}
+
+// Bytes are stored at a place; gives the place behind them.
+fn put(buffer: &mut [u8], at: usize, bytes: &[u8]) -> usize
+    requires { ⌜ at + length (now bytes) ≤ length (now buffer) ⌝ }
+    ensures { λ end. ⌜ Puts (now (bytes .entry)) (now (buffer .entry)) at end (now (buffer .exit)) ⌝ }
+{
+    let mut i: usize = 0;
+    while i < bytes.len() {
+        buffer[at + i] = bytes[i];
+        i += 1;
+    }
+    at + i
+}
+
+// More bytes of the present line; gives how many of it are kept then.
+fn keep(line: &mut [u8], kept: usize, more: &[u8]) -> usize
+    requires { ⌜ (kept ≤ lineKept) × (length (now line) ≡ lineKept) ⌝ }
+    ensures { λ r. ⌜ Keeps kept (now (line .entry)) (now (more .entry)) r (now (line .exit)) ⌝ }
+{
+    let n = least(more.len(), KEPT - kept);
+    put(line, kept, &more[..n])
+}
+
+// The present line is whole.
+fn answer(s: Session, log: &mut [u8], line: &[u8], output: &mut [u8]) -> Session
+    requires { ⌜ Ready s (now line) (now output) ⌝ }
+    ensures { λ r. ⌜ Answers s (now (log .entry)) (now (line .entry)) (now (output .entry)) r (now (log .exit)) (now (output .exit)) ⌝ }
+{
+    let mut buffer = [0u8; OUTPUT];
+    let kept = s.kept;
+    let table = s.table;
+    let o = trace_run::obey(&line[..kept], table, log, &mut buffer);
+    let size = o.size;
+    let waiting = put(output, s.waiting, &buffer[..size]);
+    let after = o.table;
+    Session {
+        table: after,
+        kept: 0,
+        taken: s.taken,
+        waiting: waiting,
+        writable: s.writable,
+    }
+}
+
+// What is left of the block, up to the first end of a line in it.
+fn take_line(
+    s: Session,
+    block: &[u8],
+    log: &mut [u8],
+    line: &mut [u8],
+    output: &mut [u8],
+) -> Session
+    requires { ⌜ Ready s (now line) (now output) × (s .taken ≤ length (now block)) ⌝ }
+    ensures { λ r. ⌜ Takes s (now (block .entry)) (now (log .entry)) (now (line .entry)) (now (output .entry)) r (now (log .exit)) (now (line .exit)) (now (output .exit)) ⌝ }
+{
+    let from = s.taken;
+    let end = bytes::scan::find(block, from, block.len(), NEWLINE);
+    let mut more = s;
+    more.kept = keep(line, s.kept, &block[from..end]);
+    if end < block.len() {
+        more.taken = end + 1;
+        return answer(more, log, line, output);
+    }
+    more.taken = end;
+    more
+}
+
+// What is left of the block, as far as there is room for the answers.
+fn take_lines(
+    start: Session,
+    block: &[u8],
+    log: &mut [u8],
+    line: &mut [u8],
+    output: &mut [u8],
+) -> Session
+    requires { ⌜ Ready start (now line) (now output) × (start .taken ≤ length (now block)) ⌝ }
+    ensures { λ r. ⌜ Takes start (now (block .entry)) (now (log .entry)) (now (line .entry)) (now (output .entry)) r (now (log .exit)) (now (line .exit)) (now (output .exit)) ⌝ }
+{
+    let mut s = start;
+    while s.taken < block.len() {
+        if ROOM < s.waiting + OUTPUT {
+            return s;
+        }
+        let next = take_line(s, block, log, line, output);
+        s = next;
+    }
+    s
+}
+
+// What waits is written.
+fn flush(s: Session, output: &[u8]) -> Session
+    requires { ⌜ s .waiting ≤ length (now output) ⌝ }
+    ensures { λ r. ⌜ Writes s r ⌝ }
+{
+    let n = s.waiting;
+    let mut after = s;
+    after.writable = io::write_all(STDOUT_FILENO, &output[..n]);
+    after.waiting = 0;
+    after
+}
+
+fn take_block(
+    start: Session,
+    block: &[u8],
+    log: &mut [u8],
+    line: &mut [u8],
+    output: &mut [u8],
+) -> Session
+    requires { ⌜ Fits start (now line) (now output) × (start .waiting ≡ 0) ⌝ }
+    ensures { λ r. ⌜ TakesAll start (now (block .entry)) (now (log .entry)) (now (line .entry)) (now (output .entry)) r (now (log .exit)) (now (line .exit)) (now (output .exit)) ⌝ }
+{
+    let mut s = start;
+    s.taken = 0;
+    while s.taken < block.len() {
+        let next = take_lines(s, block, log, line, output);
+        let after = flush(next, output);
+        s = after;
+        if s.writable {} else {
+            return s;
+        }
+    }
+    s
+}
+
+// The input has ended; the last line may lack its newline.
+fn finish(s: Session, log: &mut [u8], line: &[u8], output: &mut [u8])
+    requires { ⌜ Ready s (now line) (now output) ⌝ }
+{
+    if s.kept == 0 {
+        return;
+    }
+    let last = answer(s, log, line, output);
+    flush(last, output);
+}
+
+fn main() {
+    let mut log = [0u8; CAPACITY];
+    let started = restart::restart(&mut log, 0);
+    let table = started.table;
+    let mut s = Session {
+        table: table,
+        kept: 0,
+        taken: 0,
+        waiting: 0,
+        writable: true,
+    };
+    let mut line = [0u8; KEPT];
+    let mut output = [0u8; ROOM];
+    let mut turns = u64::MAX;
+    while 0 < turns {
+        turns -= 1;
+        let mut block = io::large_buffer();
+        let got = libc::read(STDIN_FILENO, &mut block);
+        let n = io::count(got, &block);
+        if n == 0 {
+            finish(s, &mut log, &line, &mut output);
+            return;
+        }
+        let next = take_block(s, &block[..n], &mut log, &mut line, &mut output);
+        s = next;
+        if s.writable {} else {
+            return;
+        }
+    }
+}
