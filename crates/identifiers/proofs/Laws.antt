@@ -1,49 +1,44 @@
--- Bytes that are put together bit by bit are zero if and only if each is.
-use Prim.Native.Nat.{ℕ, _≤_, _<_, _+_}
+-- Bytes that are one number are zero if and only if it is.
+use Prim.Native.Nat.{ℕ, zero, suc, _≤_, _<_, _+_, _*_}
 use native.Mathlib.Omega.{arith}
-use mathlib.Core.Path.{_≡_, refl, sym, _∙_}
+use native.Mathlib.Nat.{add-zero}
+use mathlib.Core.Path.{_≡_, refl, sym, _∙_, ap}
 use mathlib.Core.Bool.{Bool, true, false, _&&_}
-use mathlib.Core.List.{List}
+use mathlib.Core.List.{List, []}
 use lib.ListN.{length, getD, drop}
+use lib.Seq.{drop-cons}
 use lib.Dec.{eqb}
-use lib.Bits.{bitOr, bitAnd, or-add-and, and-le-l, and-le-r}
 use borrow.Author.Tests.{eq-eqb, ne-eqb, eqb-true, eqb-false}
 use Rattle.lists.specs.Lists.{all}
 use Rattle.lists.proofs.Tests.{by-test}
-use Rattle.lists.proofs.Loops.{drop-at, drop-done}
+use Rattle.lists.proofs.Loops.{drop-done}
+use Rattle.identifiers.specs.Words.{word}
 
-or-none : (a b : ℕ) → eqb (bitOr a b) 0 ≡ (eqb a 0 && eqb b 0)
-or-none a b = by-test (eqb a 0)
-    (λ e. by-test (eqb b 0)
-    (λ f. rw (e, f) (eq-eqb (bitOr a b) 0 (omega (arith, or-add-and a b, eqb-true a 0 e, eqb-true b 0 f))))
-    (λ f. let n : b ≡ 0 → ⊥ = eqb-false b 0 f in rw (e, f) (ne-eqb (bitOr a b) 0 (λ z. n (omega (arith, or-add-and a b, and-le-l a b, and-le-r a b, z))))))
-    (λ e. let n : a ≡ 0 → ⊥ = eqb-false a 0 e in rw e (ne-eqb (bitOr a b) 0 (λ z. n (omega (arith, or-add-and a b, and-le-l a b, and-le-r a b, z)))))
+none-below : (w x : ℕ) → eqb (w * 256 + x) 0 ≡ (eqb x 0 && eqb w 0)
+none-below w x = by-test (eqb x 0)
+    (λ e. by-test (eqb w 0)
+    (λ f. rw (e, f) (eq-eqb (w * 256 + x) 0 (omega (arith, eqb-true x 0 e, eqb-true w 0 f))))
+    (λ f. let n : w ≡ 0 → ⊥ = eqb-false w 0 f in rw (e, f) (ne-eqb (w * 256 + x) 0 (λ z. n (omega arith)))))
+    (λ e. let n : x ≡ 0 → ⊥ = eqb-false x 0 e in rw e (ne-eqb (w * 256 + x) 0 (λ z. n (omega arith))))
 
--- m is the first i put together
-pub record Merged (l : List ℕ) (m i : ℕ) : Type 0 where
-  pub within : i ≤ 16
-  pub long : length l ≡ 16
-  pub same : (eqb m 0 && all (λ b. eqb b 0) (drop i l)) ≡ all (λ b. eqb b 0) l
-
-pub merge-start : {l : List ℕ} → length l ≡ 16 → Merged l 0 0
-merge-start h = record { within = omega arith; long = h; same = refl }
-
-shift : (a b c : Bool) → ((a && b) && c) ≡ (a && (b && c))
+shift : (a b c : Bool) → (a && (b && c)) ≡ ((a && b) && c)
 shift true b c = refl
 shift false b c = refl
 
-pub merge-again : {l : List ℕ} {m i : ℕ} → Merged l m i → i < 16 → Merged l (bitOr m (getD l i 0)) (i + 1)
-unfolding all
-merge-again {l} {m} {i} p h = record {
-  within = omega arith;
-  long = p .long;
-  same = rw (or-none m (getD l i 0), shift (eqb m 0) (eqb (getD l i 0) 0) (all (λ b. eqb b 0) (drop (i + 1) l))) (rw (drop-at l i 0 (omega (arith, p .long))) at (p .same));
-}
+-- those from index i on are zero if the first k and the others are
+word-zero : (k i : ℕ) (l : List ℕ) → i + k ≤ length l → all (λ b. eqb b 0) (drop i l) ≡ (eqb (word k i l) 0 && all (λ b. eqb b 0) (drop (i + k) l))
+unfolding word all
+word-zero zero i l h = rw (add-zero i)
+word-zero (suc k) i l h =
+    let next : i + suc k ≡ suc i + k = omega arith in
+    rw (drop-cons l i 0 (omega arith), next, none-below (word k (suc i) l) (getD l i 0), ← shift (eqb (getD l i 0) 0) (eqb (word k (suc i) l) 0) (all (λ b. eqb b 0) (drop (suc i + k) l)))
+    (ap (λ b. eqb (getD l i 0) 0 && b) (word-zero k (suc i) l (omega arith)))
 
-and-true : (a : Bool) → (a && true) ≡ a
-and-true true = refl
-and-true false = refl
-
-pub merge-done : {l : List ℕ} {m i : ℕ} → Merged l m i → 16 ≤ i → eqb m 0 ≡ all (λ b. eqb b 0) l
+pub two-words : (l : List ℕ) → length l ≡ 16 → all (λ b. eqb b 0) l ≡ (eqb (word 8 0 l) 0 && eqb (word 8 8 l) 0)
 unfolding all
-merge-done {l} {m} {i} p h = sym (and-true (eqb m 0)) ∙ rw (drop-done l i (omega (arith, p .long))) at (p .same)
+two-words l h =
+    word-zero 8 0 l (omega arith) ∙ ap (λ b. eqb (word 8 0 l) 0 && b) (word-zero 8 8 l (omega arith) ∙ rw (drop-done l 16 (omega arith)) (and-true (eqb (word 8 8 l) 0)))
+  where
+    and-true : (a : Bool) → (a && true) ≡ a
+    and-true true = refl
+    and-true false = refl

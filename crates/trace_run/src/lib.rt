@@ -68,7 +68,12 @@ fn obey_step(event: Event, table: Table, log: &mut [u8], buffer: &mut [u8; OUTPU
     let s = step::step(table, event, log);
     let after = s.table;
     let signals = s.signals;
-    answered(after, s.refusal, signals, buffer)
+    // Not by `answered`, which would have the table copied once more.
+    let size = trace_line::write_line(s.refusal, after.used, signals, buffer);
+    Obeyed {
+        table: after,
+        size: size,
+    }
 }
 
 pub fn obey(line: &[u8], table: Table, log: &mut [u8], buffer: &mut [u8; OUTPUT]) -> Obeyed

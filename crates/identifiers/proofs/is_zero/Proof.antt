@@ -1,7 +1,7 @@
--- The bytes that are put together, and what is left, are zero if and only if the whole is.
-use Prim.Native.Nat.{_-_}
+-- Two words are zero if and only if their bytes are.
+use mathlib.Core.Path.{sym, _∙_}
 use borrow.Author.Needs.{needs}
-use Rattle.identifiers.proofs.Laws.{Merged, merge-start, merge-again, merge-done}
+use Rattle.identifiers.proofs.Laws.{two-words}
 use Rattle.identifiers.proofs.is_zero.Statement.{statement}
 use Rattle.identifiers.proofs.is_zero.Tie as tie
 
@@ -9,11 +9,7 @@ pub is-zero-spec : {M : Type 1} → statement M
 is-zero-spec =
     tie.close
     (tie.spec
-    (λ a m₀ i₀ m i. Merged a m i)
-    (λ a m₀ i₀ m i. 16 - i)
-    (λ c. merge-start (search needs))
-    (λ c. search needs)
-    (λ c. search needs)
-    (λ c. search needs)
-    (λ c. merge-again (c .before .loop .inv) (c .loop-test .taken))
-    (λ c. merge-done (c .before .loop .inv) (c .loop-test .left)))
+    (λ c κs. search needs)
+    (λ c κs. search needs)
+    (λ c. sym (two-words (c .before .before .before .args .a) (search needs) ∙ rw (← c .before .before .low-word .ensures, ← c .before .high-word .ensures, c .if1 .taken)))
+    (λ c. sym (two-words (c .before .before .before .args .a) (search needs) ∙ rw (← c .before .before .low-word .ensures, c .if1 .left))))

@@ -2,6 +2,7 @@
 use Rattle.rules.specs.Trace.{obeyed}
 use Rattle.rules.proofs.Preserved.{step-few-signals}
 use Rattle.trace_run.proofs.Laws.{answers-obey}
+use mathlib.Core.Path.{refl}
 use borrow.Author.Needs.{needs}
 use Rattle.trace_run.proofs.obey_step.Statement.{statement}
 use Rattle.trace_run.proofs.obey_step.Tie as tie
@@ -9,15 +10,15 @@ use Rattle.trace_run.proofs.obey_step.Tie as tie
 step-requires : tie.Need-step-requires
 step-requires c κs = search needs
 
-answered-requires : tie.Need-answered-requires
-answered-requires c κs = search needs
+write-line-requires : tie.Need-write-line-requires
+write-line-requires c κs = search needs
 
 same-length : tie.Need-same-length
 same-length c = search needs
 
 returns : tie.Need-returns
 unfolding obeyed
-returns c = answers-obey _ _ _ _ _ _ _ _ (c .before .before .before .before .before .before .step .ensures .1) (step-few-signals _ _ _) (rw (c .before .before .before .before .before .before .step .ensures .0) at (c .answered .ensures))
+returns c = answers-obey _ _ _ _ _ _ _ _ (c .before .before .before .before .before .before .step .ensures .1) (step-few-signals _ _ _) (rw (c .before .before .before .before .before .before .step .ensures .0) at (record { same = refl; line = c .write-line .ensures }))
 
 pub obey-step-spec : {M : Type 1} → statement M
-obey-step-spec = tie.close (tie.spec step-requires answered-requires same-length returns)
+obey-step-spec = tie.close (tie.spec step-requires write-line-requires same-length returns)
