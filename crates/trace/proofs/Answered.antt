@@ -10,7 +10,8 @@ use Rattle.trace_line.specs.Puts.{Puts}
 use Rattle.trace_run.specs.declared.Obeyed.{Obeyed}
 use Rattle.trace_run.specs.Promises.{Obeys}
 use Rattle.trace.specs.declared.Session.{Session}
-use Rattle.trace.specs.Sessions.{Stand, Stands, Fits, Ready, Answers, answered, lineKept, room}
+use Rattle.trace.specs.Program.{Stand, answered}
+use Rattle.trace.specs.Sessions.{Stands, Fits, Ready, Answers, lineKept, room}
 use Rattle.trace.proofs.Memory.{put-long, put-taken}
 use Rattle.trace.proofs.Kept.{traced-kept}
 

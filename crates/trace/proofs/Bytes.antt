@@ -14,7 +14,8 @@ use Rattle.lists.proofs.Tests.{by-test}
 use Rattle.bytes.specs.Bytes.{indexOf, indexAfter}
 use Rattle.rules.specs.Trace.{tracedOf}
 use Rattle.trace_line.specs.Promises.{newline}
-use Rattle.trace.specs.Sessions.{Stand, answered, withMore, afterBytes, written, part}
+use Rattle.trace.specs.Program.{Stand, answered, withMore, afterBytes, written}
+use Rattle.trace.specs.Sessions.{part}
 
 pub after-both : (w : Stand) (xs ys : List ℕ) → afterBytes w (xs ++ ys) ≡ afterBytes (afterBytes w xs) ys
 unfolding afterBytes

@@ -4,3 +4,5 @@ pub mod Answered
 pub mod Bytes
 pub mod Taken
 pub mod Turns
+pub mod Finished
+pub mod Whole

@@ -8,7 +8,8 @@ use lib.Seq.{take-length}
 use Rattle.trace.specs.declared.Session.{Session}
 use Rattle.bytes.specs.Bytes.{indexOf, slice}
 use Rattle.trace_line.specs.Promises.{newline}
-use Rattle.trace.specs.Sessions.{Stand, Stands, Ready, Keeps, Answers, Takes, answered, withMore, afterBytes, part, lineKept}
+use Rattle.trace.specs.Program.{Stand, answered, withMore, afterBytes}
+use Rattle.trace.specs.Sessions.{Stands, Ready, Keeps, Answers, Takes, part, lineKept}
 use Rattle.trace.proofs.Bytes.{after-plain, after-line}
 
 take-more : (n : ℕ) (a b : List ℕ) → take n (take n a ++ b) ≡ take n (a ++ b)

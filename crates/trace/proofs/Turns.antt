@@ -9,7 +9,8 @@ use lib.ListN.{length, take, drop}
 use lib.Seq.{take-all}
 use Rattle.lists.proofs.Tests.{by-either, no-clash}
 use Rattle.trace.specs.declared.Session.{Session}
-use Rattle.trace.specs.Sessions.{Stand, Stands, Fits, Takes, Writes, TakesAll, afterBytes, written, part}
+use Rattle.trace.specs.Program.{Stand, afterBytes, written}
+use Rattle.trace.specs.Sessions.{Stands, Fits, Takes, Writes, TakesAll, part}
 use Rattle.trace.proofs.Bytes.{after-parts, written-between}
 
 -- the loop over lines: it has moved on, or nothing waits that did not

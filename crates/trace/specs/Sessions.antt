@@ -1,45 +1,12 @@
--- The trace program between two bytes of its input, and how its memory holds that.
+-- How the program's memory holds where it stands, and what its functions promise of that.
 use Prim.Native.Nat.{ℕ, _+_, _-_, _≤_, _<_}
 use mathlib.Core.Path.{_≡_}
-use mathlib.Core.Bool.{true, cond}
-use mathlib.Core.List.{List, [], _∷_, _++_}
-use lib.Dec.{eqb}
+use mathlib.Core.Bool.{true}
+use mathlib.Core.List.{List, _++_}
 use lib.ListN.{length, take, drop}
-use Rattle.rules.specs.declared.Table.{Table}
-use Rattle.rules.specs.Trace.{tracedOf}
-use Rattle.trace_line.specs.Promises.{newline, outputMost}
+use Rattle.trace_line.specs.Promises.{outputMost}
 use Rattle.trace.specs.declared.Session.{Session}
-
--- ── what is meant ───────────────────────────────────────────────────────────────────────────────────────────────
-
--- the table, the log, the bytes of the present line so far, however many, and what was printed
-pub record Stand : Type 0 where
-  pub table : Table
-  pub log : List ℕ
-  pub line : List ℕ
-  pub printed : List ℕ
-
--- the present line is whole: it is obeyed, and its output line is printed
-unfoldable pub answered : Stand → Stand
-answered w =
-    let t = tracedOf (w .line) (w .table) (w .log) in
-    record { table = t .table; log = t .log; line = []; printed = w .printed ++ (t .output ++ (newline ∷ [])) }
-
-abbrev pub withMore : Stand → List ℕ → Stand
-withMore w bs = record { table = w .table; log = w .log; line = w .line ++ bs; printed = w .printed }
-
--- a newline ends a line
-unfoldable pub afterBytes : Stand → List ℕ → Stand
-afterBytes w [] = w
-afterBytes w (b ∷ bs) = cond (eqb b newline) (afterBytes (answered w) bs) (afterBytes (withMore w (b ∷ [])) bs)
-
--- "the last line may lack it"
-unfoldable pub afterAll : Stand → Stand
-afterAll w = cond (eqb (length (w .line)) 0) w (answered w)
-
--- what was printed is written, and no more waits
-abbrev pub written : Stand → Stand
-written w = record { table = w .table; log = w .log; line = w .line; printed = [] }
+use Rattle.trace.specs.Program.{Stand, answered, afterBytes, afterAll, written}
 
 -- ── how memory holds it ─────────────────────────────────────────────────────────────────────────────────────────
 
@@ -107,3 +74,7 @@ pub record TakesAll (s : Session) (block log line output : List ℕ) (r : Sessio
   pub fits : Fits r line′ output′
   pub none : r .waiting ≡ 0
   pub same : r .writable ≡ true → (w : Stand) → Stands w s log line output → Stands (written (afterBytes w block)) r log′ line′ output′
+
+pub record Finishes (s : Session) (log line output : List ℕ) (r : Session) (log′ output′ : List ℕ) : Type 0 where
+  pub fits : Fits r line output′
+  pub same : (w : Stand) → Stands w s log line output → Stands (afterAll w) r log′ line output′

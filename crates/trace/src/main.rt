@@ -4,7 +4,7 @@ ghost use mathlib.Core.Path.{_≡_};
 ghost use Prim.Native.Nat.{_+_, _≤_, _<_, min};
 ghost use lib.ListN.{length};
 ghost use Rattle.trace_line.specs.Puts.{Puts};
-ghost use Rattle.trace.specs.Sessions.{Fits, Ready, Keeps, Answers, Takes, Writes, TakesAll, lineKept};
+ghost use Rattle.trace.specs.Sessions.{Fits, Ready, Keeps, Answers, Takes, Writes, TakesAll, Finishes, lineKept};
 use libc::STDIN_FILENO;
 use libc::STDOUT_FILENO;
 use rules::Table;
@@ -161,14 +161,14 @@ fn take_block(
 }
 
 // The input has ended; the last line may lack its newline.
-fn finish(s: Session, log: &mut [u8], line: &[u8], output: &mut [u8])
+fn finish(s: Session, log: &mut [u8], line: &[u8], output: &mut [u8]) -> Session
     requires { ⌜ Ready s (now line) (now output) ⌝ }
+    ensures { λ r. ⌜ Finishes s (now (log .entry)) (now (line .entry)) (now (output .entry)) r (now (log .exit)) (now (output .exit)) ⌝ }
 {
     if s.kept == 0 {
-        return;
+        return s;
     }
-    let last = answer(s, log, line, output);
-    flush(last, output);
+    answer(s, log, line, output)
 }
 
 fn main() {
@@ -191,7 +191,8 @@ fn main() {
         let got = libc::read(STDIN_FILENO, &mut block);
         let n = io::count(got, &block);
         if n == 0 {
-            finish(s, &mut log, &line, &mut output);
+            let last = finish(s, &mut log, &line, &mut output);
+            flush(last, &output);
             return;
         }
         let next = take_block(s, &block[..n], &mut log, &mut line, &mut output);

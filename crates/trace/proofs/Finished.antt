@@ -1,0 +1,38 @@
+-- At the end nothing is kept of a line only where there is none.
+use Prim.Native.Nat.{ℕ, zero, suc, _≤_}
+use native.Mathlib.Omega.{arith}
+use mathlib.Core.Path.{_≡_, refl, sym, ap, _∙_}
+use mathlib.Core.List.{List, [], _∷_}
+use lib.Dec.{eqb}
+use lib.ListN.{length, take, length-take}
+use borrow.Author.Tests.{eq-eqb, ne-eqb}
+use Rattle.trace.specs.declared.Session.{Session}
+use Rattle.trace.specs.Program.{Stand, afterAll, answered}
+use Rattle.trace.specs.Sessions.{Stands, Ready, Answers, Finishes, lineKept}
+
+kept-all : {w : Stand} {s : Session} {log line output : List ℕ} → Ready s line output → Stands w s log line output
+    → s .kept ≡ length (take lineKept (w .line))
+kept-all {w} {s} {log} {line} r h =
+    let e : length (take (s .kept) line) ≡ s .kept = simp length-take (omega (arith, r .fits .kept, r .fits .line-long)) in
+    sym e ∙ ap length (h .present)
+
+module _ {s : Session} {log line output : List ℕ} (r : Ready s line output) where
+  pub finish-nothing : s .kept ≡ 0 → Finishes s log line output s log output
+  unfolding afterAll
+  finish-nothing e =
+      record {
+        fits = r .fits;
+        same = λ w h.
+            let n : length (w .line) ≡ 0 = omega (arith, simp length-take at (kept-all r h)) in
+            rw (eq-eqb (length (w .line)) 0 n) h;
+      }
+
+  pub finish-last : {t : Session} {log′ output′ : List ℕ} → (s .kept ≡ 0 → ⊥) → Answers s log line output t log′ output′
+      → Finishes s log line output t log′ output′
+  unfolding afterAll
+  finish-last n a =
+      record {
+        fits = a .fits;
+        same = λ w h.
+            rw (ne-eqb (length (w .line)) 0 (λ e. n (omega (arith, simp length-take at (kept-all r h))))) (a .same w h);
+      }
