@@ -171,12 +171,11 @@ fn about_one(table: Table, n: u32, act: Act) -> u8
     if zero {
         return refusal::ZERO_NAMED;
     }
-    let at = places::place_numbered(table, n);
-    let missing = at == 0;
+    let e = places::numbered(table, n);
+    let missing = e.number != n;
     if missing {
         return refusal::NOT_HELD;
     }
-    let e = places::numbered(table, n);
     let r = reactions::reaction(e.kind, e.state, act);
     let refused = reactions::is_refused(r);
     if refused {

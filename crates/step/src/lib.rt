@@ -40,18 +40,29 @@ fn accepted(table: Table, event: Event, log: &mut [u8]) -> Accepted
     let id = t.0;
     let m = event.rm;
     let rm = m.0;
-    let p = places::place_named(table, id);
     match act {
         Act::Begin => accepting::begin(table, id),
-        Act::Enlist(n, kind, mark) => accepting::enlist(table, p, n, rm, kind, mark),
-        Act::Commit => deciding::commit(table, p, log),
+        Act::Enlist(n, kind, mark) => {
+            let p = places::place_named(table, id);
+            accepting::enlist(table, p, n, rm, kind, mark)
+        }
+        Act::Commit => {
+            let p = places::place_named(table, id);
+            deciding::commit(table, p, log)
+        }
         Act::ZeroDone(n) => accepting::reacted(n, act, table, log),
         Act::Vote(n, _) => accepting::reacted(n, act, table, log),
-        Act::Rollback => endings::abort(table, p, log),
+        Act::Rollback => {
+            let p = places::place_named(table, id);
+            endings::abort(table, p, log)
+        }
         Act::Reply(n, _) => accepting::reacted(n, act, table, log),
         Act::Ack(n) => accepting::reacted(n, act, table, log),
         Act::Lost(n) => accepting::reacted(n, act, table, log),
-        Act::Ask => accepting::ask(table, p, rm),
+        Act::Ask => {
+            let p = places::place_named(table, id);
+            accepting::ask(table, p, rm)
+        }
         Act::Reenlisted => reenlisting::reenlisted(table, rm, log),
     }
 }

@@ -9,6 +9,7 @@ use Rattle.rules.specs.declared.Signal.{Signal}
 use Rattle.rules.specs.Sizes.{signalsMost}
 use Rattle.rules.specs.Signals.{rowOf}
 use Rattle.rules.specs.Trace.{outputOf}
+use Rattle.trace_line.specs.Promises.{IsWriting}
 use Rattle.trace_line.proofs.Lines.{row-output}
 use Rattle.trace_run.specs.declared.Obeyed.{Obeyed}
 use Rattle.trace_run.specs.Promises.{Answers, Obeys}
@@ -25,3 +26,8 @@ answers-obey tb why ss before o log left after l h a =
       bytes = a .line .bytes ∙ ap (sets before 0) line;
       within = a .line .within;
     }
+
+pub writes-obey : (tb : Table) (why : ℕ) (ss : List Signal) (before : List ℕ) (o : Obeyed) (log left after : List ℕ)
+    → left ≡ log → length ss ≤ signalsMost → o .table ≡ tb → IsWriting why (tb .used) (rowOf ss) before (o .size) after
+    → Obeys (record { table = tb; log = log; output = outputOf why (tb .used) ss }) before o left after
+writes-obey tb why ss before o log left after l h e w = answers-obey tb why ss before o log left after l h (record { same = e; line = w })

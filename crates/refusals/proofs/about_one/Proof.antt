@@ -1,8 +1,7 @@
 -- The checks of the definition, in its order.
 use borrow.Author.Needs.{needs}
-use Rattle.lists.proofs.Loops.{any-place}
-use Rattle.rules.specs.Table.{isNumbered}
 use Rattle.rules.specs.Refusals.{firstOf}
+use Rattle.refusals.proofs.Laws.{held-has}
 use Rattle.refusals.proofs.about_one.Statement.{statement}
 use Rattle.refusals.proofs.about_one.Tie as tie
 
@@ -13,9 +12,8 @@ about-one-spec =
     (tie.spec
     (λ c. rw (c .if1 .taken))
     (λ c κs. search needs)
-    (λ c. rw (c .before .before .if1 .left, any-place (isNumbered (c .before .before .before .args .n)), ← c .before .place-numbered .ensures, c .if2 .taken))
+    (λ c. rw (c .before .before .before .if1 .left, held-has (c .before .before .before .before .args .n) (c .before .before .before .before .args .table) (c .before .before .before .if1 .left), ← c .before .before .numbered .ensures, c .if2 .taken))
     (λ c κs. search needs)
     (λ c κs. search needs)
-    (λ c κs. search needs)
-    (λ c. rw (c .before .before .before .before .before .before .if1 .left, any-place (isNumbered (c .before .before .before .before .before .before .before .args .n)), ← c .before .before .before .before .before .place-numbered .ensures, c .before .before .before .before .if2 .left, ← c .before .before .before .numbered .ensures, ← c .before .before .reaction .ensures, ← c .before .is-refused .ensures, c .if3 .taken))
-    (λ c. rw (c .before .before .before .before .before .before .if1 .left, any-place (isNumbered (c .before .before .before .before .before .before .before .args .n)), ← c .before .before .before .before .before .place-numbered .ensures, c .before .before .before .before .if2 .left, ← c .before .before .before .numbered .ensures, ← c .before .before .reaction .ensures, ← c .before .is-refused .ensures, c .if3 .left)))
+    (λ c. rw (c .before .before .before .before .before .before .if1 .left, held-has (c .before .before .before .before .before .before .before .args .n) (c .before .before .before .before .before .before .before .args .table) (c .before .before .before .before .before .before .if1 .left), ← c .before .before .before .before .before .numbered .ensures, c .before .before .before .if2 .left, ← c .before .before .reaction .ensures, ← c .before .is-refused .ensures, c .if3 .taken))
+    (λ c. rw (c .before .before .before .before .before .before .if1 .left, held-has (c .before .before .before .before .before .before .before .args .n) (c .before .before .before .before .before .before .before .args .table) (c .before .before .before .before .before .before .if1 .left), ← c .before .before .before .before .before .numbered .ensures, c .before .before .before .if2 .left, ← c .before .before .reaction .ensures, ← c .before .is-refused .ensures, c .if3 .left)))

@@ -1,0 +1,21 @@
+-- An enlistment with a number that is not zero is held if and only if the one that is found has it.
+use Prim.Native.Nat.{ℕ}
+use mathlib.Core.Path.{_≡_, refl, sym}
+use mathlib.Core.Bool.{true, false}
+use mathlib.Core.List.{List, [], _∷_}
+use lib.Dec.{eqb}
+use borrow.Author.Tests.{ne-eqb, eqb-false}
+use Rattle.lists.specs.Lists.{any, firstOr}
+use Rattle.lists.proofs.Tests.{by-test}
+use Rattle.rules.specs.declared.Enlistment.{Enlistment}
+use Rattle.rules.specs.declared.Table.{Table}
+use Rattle.rules.specs.Table.{noEnlistment, isNumbered, numbered}
+
+first-has : (n : ℕ) (es : List Enlistment) → eqb n 0 ≡ false → any (isNumbered n) es ≡ isNumbered n (firstOr noEnlistment (isNumbered n) es)
+unfolding any firstOr
+first-has n [] z = sym (ne-eqb 0 n (λ e. eqb-false n 0 z (sym e)))
+first-has n (e ∷ es) z = by-test (isNumbered n e) (λ t. rw (t, t)) (λ t. rw t (first-has n es z))
+
+pub held-has : (n : ℕ) (tb : Table) → eqb n 0 ≡ false → any (isNumbered n) (tb .enlistments) ≡ eqb (numbered n tb .number) n
+unfolding numbered
+held-has n tb z = first-has n (tb .enlistments) z
