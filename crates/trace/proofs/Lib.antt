@@ -6,3 +6,4 @@ pub mod Taken
 pub mod Turns
 pub mod Finished
 pub mod Whole
+pub mod Reached

@@ -1,9 +1,7 @@
--- The program is safe and ends: between two blocks nothing waits, and lent memory is as long as it was.
-use mathlib.Core.Path.{_≡_}
-use lib.ListN.{length}
+-- The program is safe and ends. Between two blocks it stands where the bytes that it has read lead from its start, and nothing waits.
+use mathlib.Core.Path.{refl, ap}
 use borrow.Author.Needs.{needs}
-use Rattle.rules.specs.Trace.{traceCapacity}
-use Rattle.trace.specs.Sessions.{Fits}
+use Rattle.trace.proofs.Reached.{Reached, reached-start, reached-again}
 use Rattle.trace.proofs.main.Statement.{statement}
 use Rattle.trace.proofs.main.Tie as tie
 
@@ -11,19 +9,15 @@ pub main-spec : {M : Type 1} → statement M
 main-spec =
     tie.close
     (tie.spec
-    (λ log₀ s₀ line₀ output₀ turns₀ log s line output turns. Fits s line output × (s .waiting ≡ 0) × (length log ≡ traceCapacity))
+    (λ log₀ s₀ line₀ output₀ turns₀ log s line output turns. Reached s log line output)
     (λ log₀ s₀ line₀ output₀ turns₀ log s line output turns. turns)
     (λ c. search needs)
     (λ c κs. search needs)
-    (λ c. search needs)
-    (λ c. search needs)
-    (λ c κs. search needs)
-    (λ c. search needs)
-    (λ c κs. search needs)
+    (λ c.
+    let r = c .before .before .restart .ensures in
+    reached-start (search needs) refl refl (search needs) (ap (λ x. x .table) (r .0)) (r .1))
     (λ c. search needs)
     (λ c κs. search needs)
-    (λ c. search needs)
-    (λ c. search needs)
     (λ c. search needs)
     (λ c κs. search needs)
     (λ c. search needs)
@@ -31,11 +25,17 @@ main-spec =
     (λ c. search needs)
     (λ c. search needs)
     (λ c. search needs)
+    (λ c κs. search needs)
+    (λ c. search needs)
+    (λ c κs. search needs)
+    (λ c. search needs)
+    (λ c. search needs)
+    (λ c. search needs)
     (λ c. search needs)
     (λ c. search needs)
     (λ c. search needs)
     (λ c κs. search needs)
     (λ c. search needs)
-    (λ c. search needs)
+    (λ c. reached-again (c .before .before .before .before .before .before .before .before .before .before .before .before .before .before .before .before .before .loop .inv) (c .before .before .before .before .take-block .ensures) (c .if2 .taken) (search needs))
     (λ c. search needs)
     (λ c. search needs))
