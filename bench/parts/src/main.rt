@@ -169,10 +169,11 @@ fn read(times: u64) -> u64 {
     let mut i: u64 = 0;
     let w = messages::write_message(message(7), &mut memory);
     let length = w.length;
+    let sample = memory;
     while i < times {
-        // One of the bytes of the reserved field and of the two identifiers, which may be any.
-        let k = 20 + (i % 36) as usize;
-        memory[k] = 1 + (i % 255) as u8;
+        // A byte as it was, which the compiler does not know.
+        let k = (i % 56) as usize;
+        memory[k] = sample[k];
         let r = messages::read_message(&memory[..length]);
         sum += r.message.reserved as u64 + r.refusal as u64;
         i += 1;
