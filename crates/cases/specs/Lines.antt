@@ -4,7 +4,7 @@ use Prim.Native.String.{String}
 use mathlib.Core.Path.{_≡_}
 use mathlib.Core.List.{List, [], _∷_, map}
 use Rattle.rules.specs.declared.Table.{Table}
-use Rattle.rules.specs.Trace.{text, Traced, tracedOf, traceCapacity}
+use Rattle.rules.specs.Trace.{text, tracedOf, traceCapacity}
 use Rattle.cases.specs.Words.{table, log}
 
 pub record Exchange : Type 0 where

@@ -2,7 +2,7 @@
 ghost use mathlib.Core.Path.{_≡_};
 ghost use mathlib.Core.Bool.{not, _||_};
 ghost use mathlib.Core.List.{[], _∷_};
-ghost use Prim.Native.Nat.{_+_, _-_, _≤_};
+ghost use Prim.Native.Nat.{_+_, _-_};
 ghost use lib.Dec.{eqb};
 ghost use lib.ListN.{getD, set};
 ghost use Rattle.rules.specs.Identifiers.{sameBytes};

@@ -1,6 +1,6 @@
 -- A loop that puts f(e) for each enlistment e of a table. What is left to do to the enlistments gives f everywhere; nothing else of the table changes.
 use Prim.Native.Nat.{ℕ, _≤_, _<_, _+_}
-use mathlib.Core.Path.{_≡_, refl, sym, _∙_, ap}
+use mathlib.Core.Path.{_≡_, refl, _∙_, ap}
 use mathlib.Core.Bool.{true, false}
 use mathlib.Core.List.{[], map}
 use lib.ListN.{length, getD, set}

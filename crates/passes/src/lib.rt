@@ -3,7 +3,7 @@
 ghost use mathlib.Core.Path.{_≡_};
 ghost use mathlib.Core.Bool.{cond};
 ghost use Prim.Native.Nat.{_≤_, _<_};
-ghost use Rattle.rules.specs.Table.{held, heldBy, freed, inState, onNumber, onHeld, changeHeld};
+ghost use Rattle.rules.specs.Table.{held, heldBy, freed, inState, onNumber, changeHeld};
 ghost use Rattle.rules.specs.Events.{zeroedOf, hearsAbort, abortedOf, committedOf};
 ghost use Rattle.rules.specs.Sound.{isOpen, openCount};
 ghost use Rattle.passes.specs.Census.{censusOf, moreOf, countedOf, Below};

@@ -3,7 +3,7 @@ ghost use mathlib.Core.Path.{_≡_};
 ghost use mathlib.Core.Bool.{_||_};
 ghost use Prim.Native.Nat.{_≤_};
 ghost use lib.Dec.{ltb};
-ghost use lib.ListN.{length, set};
+ghost use lib.ListN.{set};
 ghost use Rattle.rules.specs.Sizes.{leastCapacity, largestCapacity};
 ghost use Rattle.rules.specs.Table.{withEnlistments};
 ghost use Rattle.rules.specs.Restart.{IsRestart, reopened, reenlistment, readBack, restartedOf};

@@ -1,5 +1,5 @@
 -- The line as it is kept is obeyed as the line is, and its output line stands behind what waited.
-use Prim.Native.Nat.{ℕ, _+_, _≤_}
+use Prim.Native.Nat.{ℕ, _+_}
 use native.Mathlib.Omega.{arith}
 use mathlib.Core.Path.{_≡_, refl, sym, ap, _∙_}
 use mathlib.Core.List.{List, [], _∷_, _++_}
@@ -10,8 +10,8 @@ use Rattle.trace_line.specs.Puts.{Puts}
 use Rattle.trace_run.specs.declared.Obeyed.{Obeyed}
 use Rattle.trace_run.specs.Promises.{Obeys}
 use Rattle.trace.specs.declared.Session.{Session}
-use Rattle.trace.specs.Program.{Stand, answered}
-use Rattle.trace.specs.Sessions.{Stands, Fits, Ready, Answers, lineKept, room}
+use Rattle.trace.specs.Program.{answered}
+use Rattle.trace.specs.Sessions.{Ready, Answers}
 use Rattle.trace.proofs.Memory.{put-long, put-taken}
 use Rattle.trace.proofs.Kept.{traced-kept}
 

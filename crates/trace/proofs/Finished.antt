@@ -1,13 +1,12 @@
 -- At the end nothing is kept of a line only where there is none.
-use Prim.Native.Nat.{ℕ, zero, suc, _≤_}
+use Prim.Native.Nat.{ℕ}
 use native.Mathlib.Omega.{arith}
-use mathlib.Core.Path.{_≡_, refl, sym, ap, _∙_}
-use mathlib.Core.List.{List, [], _∷_}
-use lib.Dec.{eqb}
+use mathlib.Core.Path.{_≡_, sym, ap, _∙_}
+use mathlib.Core.List.{List}
 use lib.ListN.{length, take, length-take}
 use borrow.Author.Tests.{eq-eqb, ne-eqb}
 use Rattle.trace.specs.declared.Session.{Session}
-use Rattle.trace.specs.Program.{Stand, afterAll, answered}
+use Rattle.trace.specs.Program.{Stand, afterAll}
 use Rattle.trace.specs.Sessions.{Stands, Ready, Answers, Finishes, lineKept}
 
 kept-all : {w : Stand} {s : Session} {log line output : List ℕ} → Ready s line output → Stands w s log line output

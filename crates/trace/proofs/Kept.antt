@@ -1,13 +1,12 @@
 -- A line that is kept with one byte more than a line may have is obeyed as the whole line is.
 use Prim.Native.Nat.{ℕ, _≤_, _<_}
 use native.Mathlib.Omega.{arith}
-use mathlib.Core.Path.{_≡_, refl, sym, ap, _∙_}
-use mathlib.Core.Bool.{true, false}
-use mathlib.Core.List.{List, [], _∷_, _++_}
+use mathlib.Core.Path.{_≡_}
+use mathlib.Core.List.{List}
 use lib.Dec.{leb}
 use lib.ListN.{length, take, length-take}
 use lib.Seq.{take-all}
-use borrow.Author.Tests.{le-leb, lt-leb, leb-true, leb-false}
+use borrow.Author.Tests.{lt-leb, leb-true, leb-false}
 use Rattle.rules.specs.declared.Table.{Table}
 use Rattle.rules.specs.Sizes.{lineMost}
 use Rattle.rules.specs.Trace.{commandOf, tracedOf}

@@ -1,10 +1,10 @@
 -- What was stored stands at its place, with what stood before it in front.
 use Prim.Native.Nat.{ℕ, zero, suc, _+_, _-_, _≤_, min}
 use native.Mathlib.Omega.{arith}
-use mathlib.Core.Path.{_≡_, refl, sym, ap, _∙_}
+use mathlib.Core.Path.{_≡_, sym, ap, _∙_}
 use mathlib.Core.List.{List, [], _∷_, _++_}
 use lib.ListN.{length, take, drop, length-append, length-take}
-use lib.Seq.{sets, sets-eq, length-sets, length-take-le, take-at, take-all, take-nil, take-append-add}
+use lib.Seq.{sets-eq, length-sets, take-at, take-nil, take-append-add}
 use Rattle.trace_line.specs.Puts.{Puts}
 use Rattle.trace.specs.Sessions.{Keeps, lineKept}
 

@@ -1,11 +1,11 @@
 -- Lines after lines, and blocks of them: what was taken, and what is taken next, is taken at once.
-use Prim.Native.Nat.{ℕ, zero, suc, _+_, _-_, _≤_, _<_}
+use Prim.Native.Nat.{ℕ, _-_, _≤_, _<_}
 use native.Mathlib.Omega.{arith}
-use mathlib.Core.Path.{_≡_, refl, sym, ap, _∙_}
+use mathlib.Core.Path.{_≡_, refl, sym, _∙_}
 use mathlib.Core.Bool.{false}
 use mathlib.Core.Logic.{_⊎_, inl, inr}
-use mathlib.Core.List.{List, [], _∷_, _++_}
-use lib.ListN.{length, take, drop}
+use mathlib.Core.List.{List}
+use lib.ListN.{length}
 use lib.Seq.{take-all}
 use Rattle.lists.proofs.Tests.{by-either, no-clash}
 use Rattle.trace.specs.declared.Session.{Session}

@@ -2,14 +2,12 @@
 use Prim.Native.Nat.{ℕ, suc}
 use native.Mathlib.Omega.{arith}
 use mathlib.Core.Path.{_≡_, refl, sym, ap, _∙_}
-use mathlib.Core.Bool.{true, false}
 use mathlib.Core.List.{List, [], _∷_, _++_, append-assoc, append-nil}
 use lib.Dec.{eqb}
 use lib.ListN.{length}
 use borrow.Author.Tests.{ne-eqb}
 use Rattle.lists.proofs.Tests.{by-test}
 use Rattle.rules.specs.declared.Table.{Table}
-use Rattle.rules.specs.Trace.{tracedOf}
 use Rattle.trace_line.specs.Promises.{newline}
 use Rattle.trace.specs.Program.{Stand, answered, withMore, afterBytes, afterAll, start, programOf, onFirstLine, linesOf, tracesOf}
 

@@ -1,6 +1,5 @@
 -- What is left of the bytes, stored behind what was stored, gives all of them at their place; a store leaves the buffer as long as it was.
 use Prim.Native.Nat.{_-_}
-use native.Mathlib.Omega.{arith}
 use borrow.Author.Needs.{needs}
 use mathlib.Core.Path.{_≡_, refl}
 use lib.ListN.{length, length-set}
