@@ -42,47 +42,39 @@ fn wide(b: u8) -> u64
     b as u64
 }
 
-// Eight bytes as one number: a sum of this form is one load of a processor.
+// Eight bytes as one number, the first lowest: a sum of this form is one load of a processor.
+fn word_of(
+    first: u8,
+    second: u8,
+    third: u8,
+    fourth: u8,
+    fifth: u8,
+    sixth: u8,
+    seventh: u8,
+    eighth: u8,
+) -> u64
+    ensures { λ r. ⌜ r ≡ first + second * 256 + third * 65536 + fourth * 16777216 + fifth * 4294967296 + sixth * 1099511627776 + seventh * 281474976710656 + eighth * 72057594037927936 ⌝ }
+{
+    wide(first)
+        + wide(second) * 256
+        + wide(third) * 65536
+        + wide(fourth) * 16777216
+        + wide(fifth) * 4294967296
+        + wide(sixth) * 1099511627776
+        + wide(seventh) * 281474976710656
+        + wide(eighth) * 72057594037927936
+}
+
 fn low_word(a: [u8; 16]) -> u64
     ensures { λ r. ⌜ r ≡ word 8 0 a ⌝ }
 {
-    let first = wide(a[0]);
-    let second = wide(a[1]);
-    let third = wide(a[2]);
-    let fourth = wide(a[3]);
-    let fifth = wide(a[4]);
-    let sixth = wide(a[5]);
-    let seventh = wide(a[6]);
-    let eighth = wide(a[7]);
-    first
-        + second * 256
-        + third * 65536
-        + fourth * 16777216
-        + fifth * 4294967296
-        + sixth * 1099511627776
-        + seventh * 281474976710656
-        + eighth * 72057594037927936
+    word_of(a[0], a[1], a[2], a[3], a[4], a[5], a[6], a[7])
 }
 
 fn high_word(a: [u8; 16]) -> u64
     ensures { λ r. ⌜ r ≡ word 8 8 a ⌝ }
 {
-    let first = wide(a[8]);
-    let second = wide(a[9]);
-    let third = wide(a[10]);
-    let fourth = wide(a[11]);
-    let fifth = wide(a[12]);
-    let sixth = wide(a[13]);
-    let seventh = wide(a[14]);
-    let eighth = wide(a[15]);
-    first
-        + second * 256
-        + third * 65536
-        + fourth * 16777216
-        + fifth * 4294967296
-        + sixth * 1099511627776
-        + seventh * 281474976710656
-        + eighth * 72057594037927936
+    word_of(a[8], a[9], a[10], a[11], a[12], a[13], a[14], a[15])
 }
 
 pub fn is_zero(a: [u8; 16]) -> bool
