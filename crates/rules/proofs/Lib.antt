@@ -22,3 +22,4 @@ pub mod Preserved
 pub mod MessageLaws
 pub mod Restarts
 pub mod Ordered
+pub mod Local
