@@ -1,0 +1,27 @@
+-- How memory holds a table: 17 bytes a transaction, its identifier and its state; 24 bytes an enlistment, its RM, its number, low byte first,
+-- its holder, kind, mark and state.
+use Prim.Native.Nat.{ℕ, _+_, _*_}
+use mathlib.Core.List.{List, map}
+use lib.ListN.{getD, take}
+use Rattle.rules.specs.declared.Transaction.{Transaction}
+use Rattle.rules.specs.declared.Enlistment.{Enlistment}
+use Rattle.rules.specs.declared.Table.{Table}
+
+unfoldable pub transactionIn : List ℕ → Transaction
+transactionIn head = record { id = record { 0 = take 16 head }; state = getD head 16 0 }
+
+abbrev pub numberIn : List ℕ → ℕ
+numberIn row = getD row 16 0 + 256 * getD row 17 0 + 65536 * getD row 18 0 + 16777216 * getD row 19 0
+
+unfoldable pub enlistmentIn : List ℕ → Enlistment
+enlistmentIn row = record {
+  holder = getD row 20 0;
+  rm = record { 0 = take 16 row };
+  number = numberIn row;
+  kind = getD row 21 0;
+  mark = getD row 22 0;
+  state = getD row 23 0;
+}
+
+abbrev pub tableIn : List (List ℕ) → List (List ℕ) → ℕ → ℕ → Table
+tableIn heads rows capacity used = record { transactions = map transactionIn heads; enlistments = map enlistmentIn rows; capacity = capacity; used = used }

@@ -1,0 +1,146 @@
+// A table in lent memory: a transaction is 17 bytes, an enlistment 24. What is lent is not copied, and is changed where it stands.
+
+ghost use mathlib.Core.Path.{_≡_};
+ghost use Prim.Native.Nat.{_≤_};
+ghost use lib.ListN.{length, take};
+ghost use Rattle.rows.specs.Memory.{transactionIn, numberIn, enlistmentIn};
+use rules::Enlistment;
+use rules::RmId;
+use rules::Transaction;
+use rules::TxId;
+
+// ---- One transaction, and one enlistment.
+
+fn identifier_in(bytes: &[u8]) -> [u8; 16]
+    requires { ⌜ 16 ≤ length (now bytes) ⌝ }
+    ensures { λ r. ⌜ r ≡ take 16 (now (bytes .entry)) ⌝ }
+{
+    [
+        bytes[0],
+        bytes[1],
+        bytes[2],
+        bytes[3],
+        bytes[4],
+        bytes[5],
+        bytes[6],
+        bytes[7],
+        bytes[8],
+        bytes[9],
+        bytes[10],
+        bytes[11],
+        bytes[12],
+        bytes[13],
+        bytes[14],
+        bytes[15],
+    ]
+}
+
+pub fn transaction_in(head: [u8; 17]) -> Transaction
+    ensures { λ r. ⌜ r ≡ transactionIn head ⌝ }
+{
+    let id = identifier_in(&head);
+    Transaction {
+        id: TxId(id),
+        state: head[16],
+    }
+}
+
+fn wide(b: u8) -> u32
+    ensures { λ r. ⌜ (r ≡ b) × (r ≤ 255) ⌝ }
+{
+    b as u32
+}
+
+fn number_in(row: [u8; 24]) -> u32
+    ensures { λ r. ⌜ r ≡ numberIn row ⌝ }
+{
+    let first = wide(row[16]);
+    let second = wide(row[17]);
+    let third = wide(row[18]);
+    let fourth = wide(row[19]);
+    first + 256 * second + 65536 * third + 16777216 * fourth
+}
+
+pub fn enlistment_in(row: [u8; 24]) -> Enlistment
+    ensures { λ r. ⌜ r ≡ enlistmentIn row ⌝ }
+{
+    let rm = identifier_in(&row);
+    let n = number_in(row);
+    Enlistment {
+        holder: row[20],
+        rm: RmId(rm),
+        number: n,
+        kind: row[21],
+        mark: row[22],
+        state: row[23],
+    }
+}
+
+pub fn head_of(x: Transaction) -> [u8; 17]
+    ensures { λ r. ⌜ transactionIn r ≡ x ⌝ }
+{
+    let t = x.id;
+    let id = t.0;
+    let state = x.state;
+    [
+        id[0],
+        id[1],
+        id[2],
+        id[3],
+        id[4],
+        id[5],
+        id[6],
+        id[7],
+        id[8],
+        id[9],
+        id[10],
+        id[11],
+        id[12],
+        id[13],
+        id[14],
+        id[15],
+        state,
+    ]
+}
+
+pub fn row_of(e: Enlistment) -> [u8; 24]
+    ensures { λ r. ⌜ enlistmentIn r ≡ e ⌝ }
+{
+    let m = e.rm;
+    let id = m.0;
+    let n = e.number;
+    let first = (n % 256) as u8;
+    let second = (n / 256 % 256) as u8;
+    let third = (n / 65536 % 256) as u8;
+    let fourth = (n / 16777216 % 256) as u8;
+    let holder = e.holder;
+    let kind = e.kind;
+    let mark = e.mark;
+    let state = e.state;
+    [
+        id[0],
+        id[1],
+        id[2],
+        id[3],
+        id[4],
+        id[5],
+        id[6],
+        id[7],
+        id[8],
+        id[9],
+        id[10],
+        id[11],
+        id[12],
+        id[13],
+        id[14],
+        id[15],
+        first,
+        second,
+        third,
+        fourth,
+        holder,
+        kind,
+        mark,
+        state,
+    ]
+}
