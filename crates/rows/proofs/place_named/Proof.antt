@@ -1,0 +1,26 @@
+-- The places are tested in their order.
+use Prim.Native.Nat.{_-_}
+use mathlib.Core.List.{map}
+use borrow.Author.Needs.{needs}
+use Rattle.lists.proofs.Loops.{Sought, seek-start, seek-miss, seek-hit, seek-done}
+use Rattle.rules.specs.Table.{isNamed}
+use Rattle.rows.specs.Memory.{transactionIn}
+use Rattle.rows.proofs.place_named.Statement.{statement}
+use Rattle.rows.proofs.place_named.Tie as tie
+
+pub place-named-spec : {M : Type 1} → statement M
+place-named-spec =
+    tie.close
+    (tie.spec
+    (λ heads id i₀ i. Sought (isNamed id) 32 (map transactionIn heads) i)
+    (λ heads id i₀ i. 32 - i)
+    (λ c. ?)
+    (λ c. search needs)
+    (λ c. search needs)
+    (λ c. search needs)
+    (λ c κs. search needs)
+    (λ c. search needs)
+    (λ c. ?)
+    (λ c. search needs)
+    (λ c. ?)
+    (λ c. ?))
