@@ -20,7 +20,7 @@ unfolding alone
 alone-at h i = at-change-same (λ x. h .transaction) noTransaction emptyTransactions (place-there h i)
 
 -- two changes at one place are one change
-change-twice : {A : Type 0} (f g : A → A) (k p : ℕ) (xs : List A) → changeFrom f k p (changeFrom g k p xs) ≡ changeFrom (λ x. f (g x)) k p xs
+pub change-twice : {A : Type 0} (f g : A → A) (k p : ℕ) (xs : List A) → changeFrom f k p (changeFrom g k p xs) ≡ changeFrom (λ x. f (g x)) k p xs
 unfolding changeFrom
 change-twice f g k p [] = refl
 change-twice f g k p (x ∷ xs) = by-test (eqb k p)
