@@ -13,8 +13,9 @@ main-spec =
     (λ log₀ s₀ line₀ output₀ turns₀ log s line output turns. turns)
     (λ c. search needs)
     (λ c κs. search needs)
+    (λ c κs. search needs)
     (λ c.
-    let r = c .before .before .restart .ensures in
+    let r = c .before .before .before .restart .ensures in
     reached-start (search needs) refl refl (search needs) (ap (λ x. x .table) (r .0)) (r .1))
     (λ c. search needs)
     (λ c κs. search needs)
