@@ -1,4 +1,6 @@
 -- `trace_run::obey_restart` meets its contract: it answers what `restart` does, which sends no signal, and has its table tested.
+use mathlib.Core.Path.{sym, ap, _∙_}
+use Rattle.rules.specs.Sound.{soundOf}
 use Rattle.rules.specs.Trace.{obeyed}
 use Rattle.trace_run.proofs.Laws.{answers-obey}
 use borrow.Author.Needs.{needs}
@@ -25,7 +27,10 @@ same-length c = search needs
 
 returns : tie.Need-returns
 unfolding obeyed
-returns c = ?
+returns c =
+    let restarted = c .before .before .before .before .before .before .before .restart .ensures in
+    ((λ e. answers-obey _ _ _ _ _ _ _ _ (restarted .1) (rw (restarted .0, c .before .before .no-signals .ensures) at (c .answered .ensures))),
+    c .answered .ensures .known ∙ c .before .before .before .is-sound .ensures ∙ ap soundOf (sym (c .answered .ensures .same)))
 
 pub obey-restart-spec : {M : Type 1} → statement M
 obey-restart-spec =
