@@ -38,7 +38,13 @@ fn no_signals() -> Signals
     }
 }
 
-fn answered(table: Table, sound: bool, why: u8, signals: Signals, buffer: &mut [u8; OUTPUT]) -> Obeyed
+fn answered(
+    table: Table,
+    sound: bool,
+    why: u8,
+    signals: Signals,
+    buffer: &mut [u8; OUTPUT],
+) -> Obeyed
     ensures { λ r. ⌜ Answers table sound why signals (now (buffer .entry)) r (now (buffer .exit)) ⌝ }
 {
     let size = trace_line::write_line(why, table.used, signals, buffer);
@@ -67,7 +73,13 @@ fn obey_restart(table: Table, log: &mut [u8], buffer: &mut [u8; OUTPUT]) -> Obey
     answered(after, sound, r.refusal, none, buffer)
 }
 
-fn obey_step(event: Event, table: Table, sound: bool, log: &mut [u8], buffer: &mut [u8; OUTPUT]) -> Obeyed
+fn obey_step(
+    event: Event,
+    table: Table,
+    sound: bool,
+    log: &mut [u8],
+    buffer: &mut [u8; OUTPUT],
+) -> Obeyed
     requires { ⌜ sound ≡ soundOf table ⌝ }
     ensures { λ r. ⌜ Obeys (obeyed Order.Step event table (now (log .entry))) (now (buffer .entry)) r (now (log .exit)) (now (buffer .exit)) × (r .sound ≡ sound) ⌝ }
 {

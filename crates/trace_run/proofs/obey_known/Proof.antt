@@ -34,9 +34,10 @@ returns : tie.Need-returns
 unfolding tracedOf obeyed
 returns c =
     let u = c .obey-unreadable .ensures in
-    let line = c .before .before .before .before .before .read-line in
-    (rw (← line .ensures, c .before .before .enum-told .given .1) (u .0 (line .result .event) _),
-    u .1 ∙ c .before .before .before .before .before .before .before .before .pre ∙ ap soundOf (sym (u .0 (line .result .event) [] .table)))
+    let line = c .before .before .before .before .before .read-line in (
+      rw (← line .ensures, c .before .before .enum-told .given .1) (u .0 (line .result .event) _),
+      u .1 ∙ c .before .before .before .before .before .before .before .before .pre ∙ ap soundOf (sym (u .0 (line .result .event) [] .table)),
+    )
 
 same-length : tie.Need-same-length
 same-length c = search needs
@@ -44,9 +45,10 @@ same-length c = search needs
 returns-2 : tie.Need-returns-2
 unfolding tracedOf obeyed
 returns-2 c =
-    let line = c .before .before .before .before .before .before .before .before .read-line in
-    (rw (← line .ensures, c .before .before .before .before .before .enum-told2 .given .1) (c .before .before .obey-restart .ensures .0 (line .result .event)),
-    c .before .before .obey-restart .ensures .1)
+    let line = c .before .before .before .before .before .before .before .before .read-line in (
+      rw (← line .ensures, c .before .before .before .before .before .enum-told2 .given .1) (c .before .before .obey-restart .ensures .0 (line .result .event)),
+      c .before .before .obey-restart .ensures .1,
+    )
 
 same-length-2 : tie.Need-same-length-2
 same-length-2 c = search needs
@@ -56,9 +58,10 @@ unfolding tracedOf obeyed
 returns-3 c =
     let s = c .before .before .obey-step .ensures in
     let line = c .before .before .before .before .before .before .before .before .read-line in
-    let start = c .before .before .before .before .before .before .before .before .before .before .before in
-    (rw (← line .ensures, c .before .before .before .before .before .enum-told3 .given .1) (s .0),
-    s .1 ∙ start .pre ∙ sym (sound-as-before (start .args .table) (line .result .event) (start .args .log .now) (rw (line .ensures) (typed-command (start .args .line .now)))) ∙ ap soundOf (sym (s .0 .table)))
+    let start = c .before .before .before .before .before .before .before .before .before .before .before in (
+      rw (← line .ensures, c .before .before .before .before .before .enum-told3 .given .1) (s .0),
+      s .1 ∙ start .pre ∙ sym (sound-as-before (start .args .table) (line .result .event) (start .args .log .now) (rw (line .ensures) (typed-command (start .args .line .now)))) ∙ ap soundOf (sym (s .0 .table)),
+    )
 
 pub obey-known-spec : {M : Type 1} → statement M
 obey-known-spec =

@@ -28,9 +28,10 @@ same-length c = search needs
 returns : tie.Need-returns
 unfolding obeyed
 returns c =
-    let restarted = c .before .before .before .before .before .before .before .restart .ensures in
-    ((λ e. answers-obey _ _ _ _ _ _ _ _ (restarted .1) (rw (restarted .0, c .before .before .no-signals .ensures) at (c .answered .ensures))),
-    c .answered .ensures .known ∙ c .before .before .before .is-sound .ensures ∙ ap soundOf (sym (c .answered .ensures .same)))
+    let restarted = c .before .before .before .before .before .before .before .restart .ensures in (
+      (λ e. answers-obey _ _ _ _ _ _ _ _ (restarted .1) (rw (restarted .0, c .before .before .no-signals .ensures) at (c .answered .ensures))),
+      c .answered .ensures .known ∙ c .before .before .before .is-sound .ensures ∙ ap soundOf (sym (c .answered .ensures .same)),
+    )
 
 pub obey-restart-spec : {M : Type 1} → statement M
 obey-restart-spec =
