@@ -23,11 +23,12 @@ pub struct Transaction {
     pub state: u8,
 }
 
+// The number first and the bytes behind it, so that nothing pads: a table has 128 of these, and is copied often.
 pub struct Enlistment {
+    pub number: u32,
+    pub rm: RmId,
     // The place, 1 to 32, of the transaction that holds it; 0 in an empty place.
     pub holder: u8,
-    pub rm: RmId,
-    pub number: u32,
     pub kind: u8,
     pub mark: u8,
     pub state: u8,
@@ -144,10 +145,11 @@ pub enum Reaction {
 
 // ---- Answers. Refusal 0 is done.
 
+// The table and the signals stand as in the answer of an accepted event, so that one is made of the other in place.
 pub struct Stepped {
-    pub refusal: u8,
     pub table: Table,
     pub signals: Signals,
+    pub refusal: u8,
 }
 
 pub struct Restarted {

@@ -4,6 +4,7 @@ use native.Mathlib.Omega.{arith}
 use mathlib.Core.Path.{_≡_, refl, sym, ap, _∙_}
 use mathlib.Core.List.{List, [], _∷_, _++_}
 use lib.ListN.{length, take}
+use Rattle.rules.specs.Sound.{soundOf}
 use Rattle.rules.specs.Trace.{Traced, tracedOf}
 use Rattle.trace_line.specs.Promises.{newline, outputMost}
 use Rattle.trace_line.specs.Puts.{Puts}
@@ -28,15 +29,16 @@ module _ {t : Traced} {before after log : List ℕ} {o : Obeyed} (p : Obeys t be
 
 pub answer-stands : {s : Session} {log line output buffer log′ output′ buffer′ : List ℕ} {o : Obeyed} {n : ℕ}
     → Ready s line output → length buffer ≡ outputMost
-    → Obeys (tracedOf (take (s .kept) line) (s .table) log) buffer o log′ buffer′
+    → Obeys (tracedOf (take (s .kept) line) (s .table) log) buffer o log′ buffer′ → o .sound ≡ soundOf (o .table)
     → Puts (take (o .size) buffer′) output (s .waiting) n output′
-    → Answers s log line output (record { table = o .table; kept = 0; taken = s .taken; waiting = n; writable = s .writable }) log′ output′
+    → Answers s log line output (record { table = o .table; sound = o .sound; kept = 0; taken = s .taken; waiting = n; writable = s .writable }) log′ output′
 unfolding answered
-answer-stands {s} {log} {line} {output} {buffer} {log′} {output′} {buffer′} {o} {n} r l p q =
+answer-stands {s} {log} {line} {output} {buffer} {log′} {output′} {buffer′} {o} {n} r l p known q =
     let there = output-there p l in
     let size : length (take (o .size) buffer′) ≡ o .size = rw there (sym (p .sized)) in
     record {
       fits = record {
+        sound = known;
         kept = omega arith;
         waiting = omega (arith, q .ends, p .within, r .free);
         line-long = r .fits .line-long;

@@ -43,7 +43,7 @@ module _ (block : List ℕ) (from end : ℕ) (found : end ≡ from + indexOf new
       rw (e, to-newline) (after-line w (drop from block) (simp length-drop (omega (arith, to-newline))))
 
 abbrev lengthened : Session → ℕ → ℕ → Session
-lengthened s kept taken = record { table = s .table; kept = kept; taken = taken; waiting = s .waiting; writable = s .writable }
+lengthened s kept taken = record { table = s .table; sound = s .sound; kept = kept; taken = taken; waiting = s .waiting; writable = s .writable }
 
 module _ {s : Session} {block log line output line′ : List ℕ} {end kept : ℕ}
     (ready : Ready s line output) (within : s .taken ≤ length block)
@@ -69,6 +69,7 @@ module _ {s : Session} {block log line output line′ : List ℕ} {end kept : �
     rest-taken h k =
         record {
           fits = record {
+            sound = ready .fits .sound;
             kept = keeps .within;
             waiting = ready .fits .waiting;
             line-long = keeps .long;

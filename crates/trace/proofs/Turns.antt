@@ -84,7 +84,7 @@ module _ {block log₀ line₀ output₀ : List ℕ} {s₀ : Session} where
         log-long = refl;
         same = λ w h.
             let nothing : written (afterBytes w (part 0 (s₀ .taken) block)) ≡ written w = rw e in
-            rw nothing (write-stands (record { table = refl; kept = refl; taken = refl; none = n }) h);
+            rw nothing (write-stands (record { table = refl; sound = refl; kept = refl; taken = refl; none = n }) h);
       }
 
   pub running-again : {log line output log′ line′ output′ : List ℕ} {s r r′ : Session}
@@ -93,6 +93,7 @@ module _ {block log₀ line₀ output₀ : List ℕ} {s₀ : Session} where
   running-again {s = s} {r = r} {r′ = r′} p l t q =
       record {
         fits = record {
+          sound = rw (q .sound, q .table) (t .fits .sound);
           kept = rw (q .kept) (t .fits .kept);
           waiting = omega (arith, q .none);
           line-long = t .fits .line-long;

@@ -4,6 +4,7 @@ use mathlib.Core.Path.{_≡_}
 use mathlib.Core.Bool.{true}
 use mathlib.Core.List.{List, _++_}
 use lib.ListN.{length, take, drop}
+use Rattle.rules.specs.Sound.{soundOf}
 use Rattle.trace_line.specs.Promises.{outputMost}
 use Rattle.trace.specs.declared.Session.{Session}
 use Rattle.trace.specs.Program.{Stand, answered, afterBytes, afterAll, written}
@@ -24,8 +25,9 @@ pub record Stands (w : Stand) (s : Session) (log line output : List ℕ) : Type 
   pub present : take (s .kept) line ≡ take lineKept (w .line)
   pub printed : take (s .waiting) output ≡ w .printed
 
--- lent memory, and counts that stay within it
+-- what is said of the table, lent memory, and counts that stay within it
 pub record Fits (s : Session) (line output : List ℕ) : Type 0 where
+  pub sound : s .sound ≡ soundOf (s .table)
   pub kept : s .kept ≤ lineKept
   pub waiting : s .waiting ≤ room
   pub line-long : length line ≡ lineKept
@@ -65,6 +67,7 @@ pub record Takes (s : Session) (block log line output : List ℕ) (r : Session) 
 -- what waits is written
 pub record Writes (s r : Session) : Type 0 where
   pub table : r .table ≡ s .table
+  pub sound : r .sound ≡ s .sound
   pub kept : r .kept ≡ s .kept
   pub taken : r .taken ≡ s .taken
   pub none : r .waiting ≡ 0

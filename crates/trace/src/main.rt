@@ -21,10 +21,11 @@ const NEWLINE: u8 = b'\n';
 
 const CAPACITY: usize = 4096;
 
-// The table; how many bytes of the present line are kept, of the present block are taken, and of output wait; and whether the output still
+// The table, and whether it is sound; how many bytes of the present line are kept, of the present block are taken, and of output wait; and whether the output still
 // takes any.
 struct Session {
     table: Table,
+    sound: bool,
     kept: usize,
     taken: usize,
     waiting: usize,
@@ -67,12 +68,13 @@ fn answer(s: Session, log: &mut [u8], line: &[u8], output: &mut [u8]) -> Session
     let mut buffer = [0u8; OUTPUT];
     let kept = s.kept;
     let table = s.table;
-    let o = trace_run::obey(&line[..kept], table, log, &mut buffer);
+    let o = trace_run::obey_known(&line[..kept], table, s.sound, log, &mut buffer);
     let size = o.size;
     let waiting = put(output, s.waiting, &buffer[..size]);
     let after = o.table;
     Session {
         table: after,
+        sound: o.sound,
         kept: 0,
         taken: s.taken,
         waiting: waiting,
@@ -175,8 +177,11 @@ fn main() {
     let mut log = [0u8; CAPACITY];
     let started = restart::restart(&mut log, 0);
     let table = started.table;
+    // Once: from here on each line says it of the table that it leaves.
+    let sound = step::is_sound(table);
     let mut s = Session {
         table: table,
+        sound: sound,
         kept: 0,
         taken: 0,
         waiting: 0,

@@ -9,12 +9,13 @@ pub main-spec : {M : Type 1} → statement M
 main-spec =
     tie.close
     (tie.spec
-    (λ log₀ s₀ line₀ output₀ turns₀ log s line output turns. Reached s log line output)
-    (λ log₀ s₀ line₀ output₀ turns₀ log s line output turns. turns)
+    (λ sound log₀ s₀ line₀ output₀ turns₀ log s line output turns. Reached s log line output)
+    (λ sound log₀ s₀ line₀ output₀ turns₀ log s line output turns. turns)
     (λ c. search needs)
     (λ c κs. search needs)
+    (λ c κs. search needs)
     (λ c.
-    let r = c .before .before .restart .ensures in
+    let r = c .before .before .before .restart .ensures in
     reached-start (search needs) refl refl (search needs) (ap (λ x. x .table) (r .0)) (r .1))
     (λ c. search needs)
     (λ c κs. search needs)

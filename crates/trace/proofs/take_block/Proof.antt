@@ -14,7 +14,7 @@ take-block-spec =
     (tie.spec
     (λ block log₀ line₀ output₀ s₀ log line output s. Running block log₀ line₀ output₀ s₀ log line output s)
     (λ block log₀ line₀ output₀ s₀ log line output s. length block - s .taken)
-    (λ c. let p = c .before .before .before .before .pre in running-start (record { kept = p .0 .kept; waiting = p .0 .waiting; line-long = p .0 .line-long; output-long = p .0 .output-long }) (p .1) refl)
+    (λ c. let p = c .before .before .before .before .pre in running-start (record { sound = p .0 .sound; kept = p .0 .kept; waiting = p .0 .waiting; line-long = p .0 .line-long; output-long = p .0 .output-long }) (p .1) refl)
     (λ c κs. let l = c .before .before .before .before .before .loop .inv in (record { fits = l .fits; free = omega (arith, l .none) }, l .within))
     (λ c κs. let t = c .before .before .before .before .before .before .before .take-lines .ensures .fits in omega (arith, t .waiting, t .output-long))
     (λ c. omega (arith, c .before .flush .ensures .taken, c .before .before .before .before .before .before .before .before .before .take-lines .ensures .some (c .before .before .before .before .before .before .before .before .before .before .before .before .before .if1 .taken)))

@@ -1,6 +1,6 @@
--- `trace_run::obey_restart` meets its contract: it answers what `restart` does, which sends no signal.
-use mathlib.Core.List.{[]}
-use native.Mathlib.Omega.{arith}
+-- `trace_run::obey_restart` meets its contract: it answers what `restart` does, which sends no signal, and has its table tested.
+use mathlib.Core.Path.{sym, ap, _∙_}
+use Rattle.rules.specs.Sound.{soundOf}
 use Rattle.rules.specs.Trace.{obeyed}
 use Rattle.trace_run.proofs.Laws.{answers-obey}
 use borrow.Author.Needs.{needs}
@@ -13,6 +13,9 @@ cast-restart c = search needs
 restart-requires : tie.Need-restart-requires
 restart-requires c κs = search needs
 
+is-sound-requires : tie.Need-is-sound-requires
+is-sound-requires c κs = search needs
+
 no-signals-requires : tie.Need-no-signals-requires
 no-signals-requires c κs = search needs
 
@@ -24,7 +27,11 @@ same-length c = search needs
 
 returns : tie.Need-returns
 unfolding obeyed
-returns c = λ e. answers-obey _ _ [] _ _ _ _ _ (c .before .before .before .before .before .before .restart .ensures .1) (omega arith) (rw (c .before .before .before .before .before .before .restart .ensures .0, c .before .before .no-signals .ensures) at (c .answered .ensures))
+returns c =
+    let restarted = c .before .before .before .before .before .before .before .restart .ensures in (
+      (λ e. answers-obey _ _ _ _ _ _ _ _ (restarted .1) (rw (restarted .0, c .before .before .no-signals .ensures) at (c .answered .ensures))),
+      c .answered .ensures .known ∙ c .before .before .before .is-sound .ensures ∙ ap soundOf (sym (c .answered .ensures .same)),
+    )
 
 pub obey-restart-spec : {M : Type 1} → statement M
 obey-restart-spec =
@@ -32,6 +39,7 @@ obey-restart-spec =
     (tie.spec
     cast-restart
     restart-requires
+    is-sound-requires
     no-signals-requires
     answered-requires
     same-length

@@ -1,7 +1,5 @@
 -- `trace_run::obey_unreadable` meets its contract: it changes nothing, and answers 16 without a signal.
 use mathlib.Core.Path.{refl}
-use mathlib.Core.List.{[]}
-use native.Mathlib.Omega.{arith}
 use Rattle.rules.specs.Trace.{obeyed}
 use Rattle.trace_run.proofs.Laws.{answers-obey}
 use borrow.Author.Needs.{needs}
@@ -16,7 +14,7 @@ answered-requires c κs = search needs
 
 returns : tie.Need-returns
 unfolding obeyed
-returns c = λ e log. answers-obey _ _ [] _ _ log _ _ refl (omega arith) (rw (c .before .before .no-signals .ensures) at (c .answered .ensures))
+returns c = let a = rw (c .before .before .no-signals .ensures) at (c .answered .ensures) in ((λ e log. answers-obey _ _ _ _ _ log _ _ refl a), a .known)
 
 pub obey-unreadable-spec : {M : Type 1} → statement M
 obey-unreadable-spec = tie.close (tie.spec no-signals-requires answered-requires returns)
