@@ -6,7 +6,7 @@ ghost use Rattle.rules.specs.Table.{held, freed, inTransactionState, ended};
 ghost use Rattle.rules.specs.Sound.{isOpen};
 ghost use Rattle.passes.specs.Census.{censusOf};
 ghost use Rattle.passes.specs.Change.{changeOf};
-ghost use Rattle.holdings.specs.Holdings.{alone, withHeld, withTransaction, withUsed};
+ghost use Rattle.holdings.specs.Holdings.{alone, withHeld, withTransaction, withUsed, going};
 use passes::Census;
 use passes::Change;
 use rules::Enlistment;
@@ -84,6 +84,14 @@ pub fn go_to(h: Holding, state: u8) -> Holding
     let mut u = h;
     u.transaction.state = state;
     u
+}
+
+// First those that it holds, then itself.
+pub fn change_and_go(h: Holding, each: Change, state: u8) -> Holding
+    ensures { λ r. ⌜ r ≡ going state (changeOf each) h ⌝ }
+{
+    let changed = change(h, each);
+    go_to(changed, state)
 }
 
 pub fn emptied(h: Holding) -> Holding
