@@ -7,39 +7,51 @@ use lib.ListN.{length}
 use Rattle.rules.specs.declared.Enlistment.{Enlistment}
 use Rattle.rules.specs.declared.Table.{Table}
 use Rattle.rules.specs.declared.Transaction.{Transaction}
-use Rattle.rules.specs.Table.{transactionAt, stateAt, held, emptied, goTo, useMore, changeHeld, changeTransaction}
+use Rattle.rules.specs.Table.{transactionAt, stateAt, held, freed, ended, emptied, changeHeld, goTo}
 use Rattle.rules.specs.Sound.{isOpen}
 use Rattle.rules.specs.Log.{Record, recordBytes, written}
-use Rattle.rules.specs.Events.{append, endOf}
-use Rattle.endings.specs.Gives.{Leaves}
+use Rattle.rules.specs.Events.{quietly, append, endOf, endIfDone}
+use Rattle.holdings.specs.declared.Holding.{Holding}
+use Rattle.holdings.specs.Holdings.{alone, Placed, withHeld, withTransaction, withUsed, going}
+use Rattle.holdings.proofs.Laws.{alone-at, alone-used}
+use Rattle.holdings.proofs.Alone.{alone-emptied, alone-going}
+use Rattle.endings.specs.Gives.{Leaves, Ready}
 
-module _ (p : ℕ) (tb : Table) (log : List ℕ) {x : Transaction} {after : Table} {b : Bool} (at : x ≡ transactionAt p tb) (test : b ≡ isOpen (x .state) (held p tb)) (emptiedSo : after ≡ emptied p tb) where
-  opens : {c : Bool} → b ≡ c → isOpen (stateAt p tb) (held p tb) ≡ c
-  opens e = sym (ap (λ y. isOpen (y .state) (held p tb)) at) ∙ (sym test ∙ e)
-
-  pub end-open : {r : Table} {out : List ℕ} (n : ℕ) → b ≡ true → out ≡ written (after .used) (recordBytes (Record.forget (x .id .0))) log
-      → n ≡ length (recordBytes (Record.forget (x .id .0))) → r ≡ useMore n after → Leaves (endOf p tb log) r out
-  unfolding endOf append
-  end-open n t o size u = rw (opens t) (record { table = u ∙ rw (size, emptiedSo, at); log = o ∙ rw (emptiedSo, at) })
-
-  pub end-quiet : b ≡ false → Leaves (endOf p tb log) after log
+-- the two ways in which a transaction ends
+module _ (p : ℕ) (tb : Table) (log : List ℕ) {x : Transaction} (at : x ≡ transactionAt p tb) where
+  is-open : isOpen (x .state) (held p tb) ≡ true → endOf p tb log ≡ append (Record.forget (x .id .0)) (emptied p tb) log
   unfolding endOf
-  end-quiet t = rw (opens t) (record { table = emptiedSo; log = refl })
+  is-open t = let o : isOpen (stateAt p tb) (held p tb) ≡ true = rw at at t in rw (o, at)
 
--- emptying keeps the used length
-pub emptied-used : (p : ℕ) (tb : Table) {after : Table} → after ≡ emptied p tb → after .used ≡ tb .used
-unfolding changeHeld changeTransaction
-emptied-used p tb e = ap (λ t. t .used) e
+  is-shut : isOpen (x .state) (held p tb) ≡ false → endOf p tb log ≡ quietly (emptied p tb) log
+  unfolding endOf
+  is-shut t = let o : isOpen (stateAt p tb) (held p tb) ≡ false = rw at at t in rw o
 
-pub more-used : (n : ℕ) (tb : Table) {after : Table} → after ≡ useMore n tb → after .used ≡ tb .used + n
-unfolding useMore
-more-used n tb e = ap (λ t. t .used) e
+module _ (h : Holding) (i : Placed h) (log : List ℕ) {after : Holding} {b : Bool} (test : b ≡ isOpen (h .transaction .state) (held (h .place) (alone h))) (so : after ≡ withTransaction (ended (h .transaction)) (withHeld freed h)) where
+  empty : alone after ≡ emptied (h .place) (alone h)
+  empty = ap alone so ∙ alone-emptied h
 
--- and so do the changes of states
-pub held-used : (p : ℕ) (f : Enlistment → Enlistment) (tb : Table) {after : Table} → after ≡ changeHeld p f tb → after .used ≡ tb .used
-unfolding changeHeld
-held-used p f tb e = ap (λ t. t .used) e
+  used : after .used ≡ emptied (h .place) (alone h) .used
+  unfolding alone
+  used = ap (λ t. t .used) empty
 
-pub go-used : (p s : ℕ) (tb : Table) {after : Table} → after ≡ goTo p s tb → after .used ≡ tb .used
-unfolding changeTransaction
-go-used p s tb e = ap (λ t. t .used) e
+  pub end-open : {r : Holding} {out : List ℕ} (n : ℕ) → b ≡ true → out ≡ written (after .used) (recordBytes (Record.forget (h .transaction .id .0))) log
+      → n ≡ length (recordBytes (Record.forget (h .transaction .id .0))) → r ≡ withUsed (after .used + n) after → Leaves (h .place) (endOf (h .place) (alone h) log) r out
+  unfolding append
+  end-open n t o size u = rw (is-open (h .place) (alone h) log (sym (alone-at h i)) (sym test ∙ t)) (record {
+    table = ap alone u ∙ (alone-used n after ∙ rw (size, empty));
+    place = ap (λ g. g .place) u ∙ ap (λ g. g .place) so;
+    log = o ∙ rw used;
+  })
+
+  pub end-quiet : b ≡ false → Leaves (h .place) (endOf (h .place) (alone h) log) after log
+  end-quiet t = rw (is-shut (h .place) (alone h) log (sym (alone-at h i)) (sym test ∙ t)) (record { table = empty; place = ap (λ g. g .place) so; log = refl })
+
+-- going on keeps the place and the used length
+module _ (s : ℕ) (f : Enlistment → Enlistment) (h : Holding) {g : Holding} (e : g ≡ going s f h) where
+  pub going-ready : Ready h → Ready g
+  going-ready r = rw e r
+
+  pub going-leaves : (log : List ℕ) {out : List ℕ} {after : Holding} → Leaves (g .place) (endIfDone (g .place) (alone g) log) after out
+      → Leaves (h .place) (endIfDone (h .place) (goTo (h .place) s (changeHeld (h .place) f (alone h))) log) after out
+  going-leaves log l = rw (e, alone-going s f h) at l

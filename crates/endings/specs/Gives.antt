@@ -1,24 +1,28 @@
--- How the code gives an outcome: a table, or a table and its signals in a row; and the log as it leaves it.
-use Prim.Native.Nat.{ℕ}
+-- How the code gives an outcome: a holding that is the outcome's table alone, at the place p where it was; its signals in a row; and the log as it leaves it.
+use Prim.Native.Nat.{ℕ, _≤_}
 use mathlib.Core.Path.{_≡_}
 use mathlib.Core.List.{List}
-use Rattle.rules.specs.declared.Table.{Table}
 use Rattle.rules.specs.Signals.{rowOf}
 use Rattle.rules.specs.Events.{Outcome}
+use Rattle.holdings.specs.declared.Holding.{Holding}
+use Rattle.holdings.specs.Holdings.{alone, Placed}
 use Rattle.endings.specs.declared.Accepted.{Accepted}
 
-abbrev pub given : Outcome → Accepted
-given o = record { table = o .table; signals = rowOf (o .signals) }
-
-pub record Gives (o : Outcome) (r : Accepted) (after : List ℕ) : Type 0 where
-  pub answer : r ≡ given o
+pub record Gives (p : ℕ) (o : Outcome) (r : Accepted) (after : List ℕ) : Type 0 where
+  pub table : alone (r .holding) ≡ o .table
+  pub place : r .holding .place ≡ p
+  pub signals : r .signals ≡ rowOf (o .signals)
   pub log : after ≡ o .log
 
--- the table alone
-pub record Leaves (o : Outcome) (r : Table) (after : List ℕ) : Type 0 where
-  pub table : r ≡ o .table
+-- without the signals
+pub record Leaves (p : ℕ) (o : Outcome) (r : Holding) (after : List ℕ) : Type 0 where
+  pub table : alone r ≡ o .table
+  pub place : r .place ≡ p
   pub log : after ≡ o .log
 
 -- so far below the largest number that what one event adds to the used length fits
 abbrev pub usedMost : ℕ
 usedMost = 1000000
+
+abbrev pub Ready : Holding → Type 0
+Ready h = Placed h × (h .used ≤ usedMost)

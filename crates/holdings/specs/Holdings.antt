@@ -6,7 +6,7 @@ use Rattle.rules.specs.declared.Transaction.{Transaction}
 use Rattle.rules.specs.declared.Enlistment.{Enlistment}
 use Rattle.rules.specs.declared.Table.{Table}
 use Rattle.rules.specs.Sizes.{transactionPlaces}
-use Rattle.rules.specs.Table.{emptyTransactions, noTransaction, onHeld}
+use Rattle.rules.specs.Table.{emptyTransactions, noTransaction, inTransactionState, onHeld}
 use Rattle.holdings.specs.declared.Holding.{Holding}
 
 -- the table in which the transaction stands at its place, alone
@@ -33,3 +33,7 @@ withTransaction x h = record { enlistments = h .enlistments; transaction = x; pl
 
 abbrev pub withUsed : ℕ → Holding → Holding
 withUsed n h = record { enlistments = h .enlistments; transaction = h .transaction; place = h .place; capacity = h .capacity; used = n }
+
+-- it goes to a state, and each that it holds becomes what f makes of it
+abbrev pub going : ℕ → (Enlistment → Enlistment) → Holding → Holding
+going s f h = withTransaction (inTransactionState s (h .transaction)) (withHeld f h)

@@ -3,10 +3,13 @@
 ghost use mathlib.Core.Path.{_≡_};
 ghost use mathlib.Core.Bool.{not, _&&_};
 ghost use mathlib.Core.List.{map};
+ghost use Rattle.lists.specs.Lists.{firstOr};
 ghost use Rattle.lists.specs.Places.{placeOf};
 ghost use Rattle.rules.specs.EnlistmentState.{failedToNotify};
-ghost use Rattle.rules.specs.Table.{heldBy, isIn, isDurableOf, changeHeld, withEnlistments};
+ghost use Rattle.rules.specs.Table.{noEnlistment, held, heldBy, isIn, isDurableOf, withEnlistments};
 ghost use Rattle.rules.specs.Events.{isUndone, toldAgain, doneFor};
+ghost use Rattle.holdings.specs.Holdings.{alone, withHeld};
+use holdings::Holding;
 use rules::Enlistment;
 use rules::Table;
 use rules::enlistment_state;
@@ -112,6 +115,23 @@ pub fn place_elsewhere(table: Table, rm: [u8; 16]) -> u8
     0
 }
 
+// The first that it holds that isn't Done; an empty place if there is none.
+pub fn undone(h: Holding, rm: [u8; 16]) -> Enlistment
+    ensures { λ r. ⌜ r ≡ firstOr noEnlistment (isUndone rm) (held (h .place) (alone h)) ⌝ }
+{
+    let p = h.place;
+    let mut i: usize = 0;
+    while i < 16 {
+        let e = h.enlistments[i];
+        let hit = is_undone_held(e, p, rm);
+        if hit {
+            return e;
+        }
+        i += 1;
+    }
+    places::no_enlistment()
+}
+
 fn told_again(e: Enlistment, rm: [u8; 16]) -> Enlistment
     ensures { λ r. ⌜ r ≡ toldAgain rm e ⌝ }
 {
@@ -126,13 +146,14 @@ fn told_again(e: Enlistment, rm: [u8; 16]) -> Enlistment
     e
 }
 
-// Ask: of the transaction at place p, what failed to notify it is told again.
-pub fn tell_again(table: Table, p: u8, rm: [u8; 16]) -> Table
-    ensures { λ r. ⌜ r ≡ changeHeld p (toldAgain rm) table ⌝ }
+// Ask: what failed to notify it is told again.
+pub fn tell_again(h: Holding, rm: [u8; 16]) -> Holding
+    ensures { λ r. ⌜ r ≡ withHeld (toldAgain rm) h ⌝ }
 {
-    let mut u = table;
+    let p = h.place;
+    let mut u = h;
     let mut i: usize = 0;
-    while i < 128 {
+    while i < 16 {
         let k = i;
         let e = u.enlistments[k];
         let mine = e.holder == p;

@@ -36,8 +36,8 @@ below n hs h = record {
 }
 
 -- while some are left, there is room for one more
-pub census-below : (p n : ℕ) {es : List Enlistment} {c : Census} {i : ℕ} → Gathered (λ k. censusHeld p) n es c i → 0 < i → Below n c
-census-below p n {es} {c} {i} g h = rw (g .same) (below n _ (omega (arith, g .within, g .long, length-filter (heldBy p) (drop i es), length-drop i es)))
+pub census-below : (p n m : ℕ) {es : List Enlistment} {c : Census} {i : ℕ} → n ≤ m → Gathered (λ k. censusHeld p) n es c i → 0 < i → Below m c
+census-below p n m {es} {c} {i} k g h = rw (g .same) (below m _ (omega (arith, g .within, g .long, length-filter (heldBy p) (drop i es), length-drop i es)))
 
 module _ {A : Type 0} (f : ℕ → A → Bool) where
   pub places-more : (k : ℕ) (x : A) (xs : List A) → length (placesFrom f k (x ∷ xs)) ≡ moreOf (f k x) (length (placesFrom f (suc k) xs))

@@ -3,7 +3,7 @@
 ghost use mathlib.Core.Path.{_≡_};
 ghost use mathlib.Core.Bool.{cond};
 ghost use Prim.Native.Nat.{_≤_, _<_};
-ghost use Rattle.rules.specs.Table.{held, heldBy, freed, inState, onNumber, changeHeld};
+ghost use Rattle.rules.specs.Table.{held, heldBy, freed, inState, onNumber};
 ghost use Rattle.rules.specs.Events.{zeroedOf, hearsAbort, abortedOf, committedOf};
 ghost use Rattle.rules.specs.Sound.{isOpen, openCount};
 ghost use Rattle.passes.specs.Census.{censusOf, moreOf, countedOf, Below};
@@ -56,7 +56,7 @@ fn counted(c: Census, e: Enlistment) -> Census
     }
 }
 
-fn counted_held(c: Census, e: Enlistment, p: u8) -> Census
+pub fn counted_held(c: Census, e: Enlistment, p: u8) -> Census
     requires { ⌜ Below 128 c ⌝ }
     ensures { λ r. ⌜ r ≡ cond (heldBy p e) (countedOf e c) c ⌝ }
 {
@@ -174,7 +174,7 @@ fn committed(e: Enlistment) -> Enlistment
     e
 }
 
-fn changed(e: Enlistment, change: Change) -> Enlistment
+pub fn changed(e: Enlistment, change: Change) -> Enlistment
     ensures { λ r. ⌜ r ≡ changeOf change e ⌝ }
 {
     match change {
@@ -186,25 +186,6 @@ fn changed(e: Enlistment, change: Change) -> Enlistment
         Change::Aborted => aborted(e),
         Change::Committed => committed(e),
     }
-}
-
-pub fn change_held(table: Table, p: u8, change: Change) -> Table
-    ensures { λ r. ⌜ r ≡ changeHeld p (changeOf change) table ⌝ }
-{
-    let mut u = table;
-    let mut i: usize = 0;
-    while i < 128 {
-        let k = i;
-        let e = u.enlistments[k];
-        let mine = e.holder == p;
-        i += 1;
-        // A store for each place, changed or not, would cost more than the whole pass.
-        if mine {
-            let f = changed(e, change);
-            u.enlistments[k] = f;
-        }
-    }
-    u
 }
 
 // Of a transaction in this state.

@@ -1,8 +1,7 @@
 -- The signals are of the table as it was.
-use native.Mathlib.Omega.{arith}
 use borrow.Author.Needs.{needs}
 use Rattle.rules.specs.Events.{abortOf}
-use Rattle.endings.proofs.Laws.{held-used, go-used}
+use Rattle.endings.proofs.Laws.{going-ready, going-leaves}
 use Rattle.endings.proofs.abort.Statement.{statement}
 use Rattle.endings.proofs.abort.Tie as tie
 
@@ -13,7 +12,7 @@ abort-spec =
     (tie.spec
     (λ c κs. search needs)
     (λ c κs. search needs)
-    (λ c κs. search needs)
-    (λ c κs. omega (arith, go-used _ _ _ (c .before .go-to .ensures), held-used _ _ _ (c .before .before .change-held .ensures), c .before .before .before .before .before .pre))
+    (λ c κs. going-ready _ _ (c .before .before .before .before .args .h) (c .before .change-and-go .ensures) (c .before .before .before .before .pre))
     (λ c. search needs)
-    (λ c. record { answer = rw (← c .before .before .before .before .before .before .to-each-and-app .ensures, ← c .before .before .before .before .before .change-held .ensures, ← c .before .before .before .before .go-to .ensures, ← c .before .before .end-if-done .ensures .table); log = rw (← c .before .before .before .before .before .change-held .ensures, ← c .before .before .before .before .go-to .ensures) (c .before .before .end-if-done .ensures .log) }))
+    (λ c. let l = going-leaves _ _ (c .before .before .before .before .before .before .before .args .h) (c .before .before .before .before .change-and-go .ensures) (c .before .before .before .before .before .before .before .args .log .now) (c .before .before .end-if-done .ensures) in
+    record { table = l .table; place = l .place; signals = c .before .before .before .before .before .to-each-and-app .ensures; log = l .log }))

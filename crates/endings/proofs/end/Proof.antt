@@ -1,7 +1,8 @@
 -- The tests are those of the definition.
 use native.Mathlib.Omega.{arith}
+use mathlib.Core.Path.{ap}
 use borrow.Author.Needs.{needs}
-use Rattle.endings.proofs.Laws.{end-open, end-quiet, emptied-used, more-used}
+use Rattle.endings.proofs.Laws.{end-open, end-quiet}
 use Rattle.endings.proofs.end.Statement.{statement}
 use Rattle.endings.proofs.end.Tie as tie
 
@@ -12,8 +13,7 @@ end-spec =
     (λ c κs. search needs)
     (λ c κs. search needs)
     (λ c κs. search needs)
-    (λ c κs. search needs)
-    (λ c κs. omega (arith, emptied-used (c .before .before .before .before .before .before .before .before .before .before .before .args .p) (c .before .before .before .before .before .before .before .before .before .before .before .args .table) (c .before .before .before .before .before .emptied .ensures), c .before .before .put-forget .ensures .2, c .before .before .before .before .before .before .before .before .before .before .before .pre))
+    (λ c κs. omega (arith, ap (λ g. g .used) (c .before .before .before .before .before .emptied .ensures), c .before .before .put-forget .ensures .2, c .before .before .before .before .before .before .before .before .before .before .before .pre .1))
     (λ c. search needs)
-    (λ c. (end-open (c .before .before .before .before .before .before .before .before .before .before .before .before .args .p) (c .before .before .before .before .before .before .before .before .before .before .before .before .args .table) (c .before .before .before .before .before .before .before .before .before .before .before .before .args .log .now) (c .before .before .before .before .before .before .before .before .before .before .transaction-at .ensures) (c .before .before .before .before .before .before .before .before .before .is-open .ensures) (c .before .before .before .before .before .before .emptied .ensures) _ (c .before .before .before .before .before .if1 .taken) (c .before .before .before .put-forget .ensures .0) (c .before .before .before .put-forget .ensures .1) (c .use-more .ensures), omega (arith, more-used _ _ (c .use-more .ensures), emptied-used (c .before .before .before .before .before .before .before .before .before .before .before .before .args .p) (c .before .before .before .before .before .before .before .before .before .before .before .before .args .table) (c .before .before .before .before .before .before .emptied .ensures), c .before .before .before .put-forget .ensures .2)))
-    (λ c. (end-quiet (c .before .before .before .before .before .before .before .args .p) (c .before .before .before .before .before .before .before .args .table) (c .before .before .before .before .before .before .before .args .log .now) (c .before .before .before .before .before .transaction-at .ensures) (c .before .before .before .before .is-open .ensures) (c .before .emptied .ensures) (c .if1 .left), omega (arith, emptied-used (c .before .before .before .before .before .before .before .args .p) (c .before .before .before .before .before .before .before .args .table) (c .before .emptied .ensures)))))
+    (λ c. (end-open (c .before .before .before .before .before .before .before .before .before .before .before .before .args .h) (c .before .before .before .before .before .before .before .before .before .before .before .before .pre .0) (c .before .before .before .before .before .before .before .before .before .before .before .before .args .log .now) (c .before .before .before .before .before .before .before .before .before .before .is-open .ensures) (c .before .before .before .before .before .before .emptied .ensures) _ (c .before .before .before .before .before .if1 .taken) (c .before .before .before .put-forget .ensures .0) (c .before .before .before .put-forget .ensures .1) (c .use-more .ensures), omega (arith, ap (λ g. g .used) (c .use-more .ensures), ap (λ g. g .used) (c .before .before .before .before .before .before .emptied .ensures), c .before .before .before .put-forget .ensures .2)))
+    (λ c. (end-quiet (c .before .before .before .before .before .before .before .args .h) (c .before .before .before .before .before .before .before .pre .0) (c .before .before .before .before .before .before .before .args .log .now) (c .before .before .before .before .before .is-open .ensures) (c .before .emptied .ensures) (c .if1 .left), omega (arith, ap (λ g. g .used) (c .before .emptied .ensures)))))

@@ -10,4 +10,4 @@ end-with-spec =
     (λ c κs. search needs)
     (λ c κs. search needs)
     (λ c. search needs)
-    (λ c. record { answer = rw (← c .before .before .before .before .to-one .ensures, ← c .before .before .end .ensures .0 .table); log = c .before .before .end .ensures .0 .log }))
+    (λ c. record { table = c .before .before .end .ensures .0 .table; place = c .before .before .end .ensures .0 .place; signals = c .before .before .before .before .to-one .ensures; log = c .before .before .end .ensures .0 .log }))

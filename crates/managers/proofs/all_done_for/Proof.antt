@@ -3,7 +3,7 @@ use Prim.Native.Nat.{_-_}
 use borrow.Author.Needs.{needs}
 use Rattle.lists.proofs.Loops.{long}
 use Rattle.rules.specs.Events.{doneFor}
-use Rattle.passes.proofs.Passed.{Passed, pass-start, pass-again, pass-done}
+use Rattle.managers.proofs.Passed.{Passed, pass-start, pass-again, pass-done}
 use Rattle.managers.proofs.all_done_for.Statement.{statement}
 use Rattle.managers.proofs.all_done_for.Tie as tie
 

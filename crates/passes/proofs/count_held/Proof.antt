@@ -1,4 +1,5 @@
 -- From the last place to the first: what is counted is the census of those behind.
+use native.Mathlib.Omega.{arith}
 use mathlib.Core.Path.{refl}
 use mathlib.Core.Bool.{cond}
 use borrow.Author.Needs.{needs}
@@ -21,7 +22,7 @@ count-held-spec =
     (λ c. search needs)
     (λ c. search needs)
     (λ c. search needs)
-    (λ c κs. census-below (c .before .before .before .args .p) 128 (c .before .before .loop .inv) (c .before .loop-test .taken))
+    (λ c κs. census-below (c .before .before .before .args .p) 128 128 (omega arith) (c .before .before .loop .inv) (c .before .loop-test .taken))
     (λ c. search needs)
     (λ c. gather-again (λ e c′. cond (heldBy (c .before .before .before .before .args .p) e) (countedOf e c′) c′) _ (c .before .before .before .loop .inv) (c .before .before .loop-test .taken) (c .counted-held .ensures) (census-more (c .before .before .before .before .args .p)))
     (λ c. gather-done (c .before .loop .inv) (c .loop-test .left)))
