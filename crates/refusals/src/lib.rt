@@ -1,16 +1,24 @@
-// Why an event is refused: the first check that applies, in the order of document 01.
+// Why an event is refused: the first check that applies, in the order of document 01. The caller looks up what a check asks of the table: each answer is that of every table of which it told the truth.
 
+ghost use Prim.Native.Nat.{ℕ};
 ghost use mathlib.Core.Path.{_≡_};
-ghost use mathlib.Core.Bool.{true, _||_};
+ghost use mathlib.Core.Bool.{true, false, not, _&&_, _||_};
+ghost use lib.Dec.{eqb, leb};
+ghost use Rattle.lists.specs.Lists.{any, none};
+ghost use Rattle.lists.specs.Places.{placeOf};
+ghost use Rattle.rules.specs.declared.Table.{Table};
+ghost use Rattle.rules.specs.declared.Event.{Event};
+ghost use Rattle.rules.specs.EnlistmentState as enlistment;
+ghost use Rattle.rules.specs.RefusalNumber as refusal;
+ghost use Rattle.rules.specs.Sizes.{heldMost};
 ghost use Rattle.rules.specs.Identifiers.{isZero};
-ghost use Rattle.rules.specs.Table.{held};
-ghost use Rattle.rules.specs.Events.{isOver};
+ghost use Rattle.rules.specs.Table.{placeNamed, stateAt, isFree, held, numbered, durableKind, isIn};
+ghost use Rattle.rules.specs.Events.{isUndone, isOver};
 ghost use Rattle.rules.specs.Sound.{soundOf};
 ghost use Rattle.rules.specs.Refusals.{firstOf, refusalOf};
 ghost use Rattle.refusals.specs.Checking.{isEarly, heldAlready, fullFor, beginChecks, enlistChecks, commitChecks, rollbackChecks, aboutOneChecks, askChecks, reenlistedChecks};
 use rules::Act;
-use rules::Event;
-use rules::Table;
+use rules::Enlistment;
 use rules::kinds;
 use rules::refusal;
 use rules::transaction_state;
@@ -47,47 +55,49 @@ fn is_over(state: u8) -> bool
     or(state == 0, state == transaction_state::ABORTING)
 }
 
-fn is_held_already(table: Table, p: u8, rm: [u8; 16], n: u32, kind: u8) -> bool
-    ensures { λ r. ⌜ r ≡ heldAlready table p rm n kind ⌝ }
+// Whether Enlist finds its number held, or a second durable enlistment of its resource manager in the transaction.
+pub fn is_already_held(held: bool, second: bool, kind: u8) -> bool
+    ensures { λ r. ⌜ r ≡ (held || (durableKind kind && second)) ⌝ }
 {
-    let at = places::place_numbered(table, n);
-    let numbered = at != 0;
     let durable = kind == kinds::DURABLE;
-    if numbered {
-        return true;
-    }
     if durable {
-        let second = managers::place_durable(table, p, rm);
-        return second != 0;
+        return or(held, second);
     }
-    false
+    held
 }
 
-fn is_full_for(table: Table, p: u8) -> bool
-    ensures { λ r. ⌜ r ≡ fullFor table p ⌝ }
+// Whether no place is vacant, or the transaction holds as many as it may.
+pub fn is_full(vacant: u8, held: u8) -> bool
+    ensures { λ r. ⌜ r ≡ (eqb vacant 0 || leb heldMost held) ⌝ }
 {
-    let vacant = places::place_vacant(table);
-    let none = vacant == 0;
-    if none {
-        return true;
-    }
-    let c = passes::count_held(table, p);
-    16 <= c.held
+    or(vacant == 0, 16 <= held)
 }
 
-fn begin(table: Table, id: [u8; 16]) -> u8
-    ensures { λ r. ⌜ r ≡ firstOf (beginChecks table id) ⌝ }
+// The checks that are every event's: 0 leaves those of the event.
+pub fn first(sound: bool, length: usize, capacity: u32) -> u8
+    ensures { λ r. ⌜ ((tb : Table) (e : Event) → sound ≡ soundOf tb → capacity ≡ tb .capacity → (eqb r refusal.accepted ≡ false → r ≡ refusalOf tb e length) × (eqb r refusal.accepted ≡ true → (soundOf tb ≡ true) × (length ≡ tb .capacity))) ⌝ }
+{
+    let whole = capacity as usize;
+    if sound {
+        if length == whole {
+            return refusal::ACCEPTED;
+        }
+        return refusal::LOG_LENGTH;
+    }
+    refusal::NOT_SOUND
+}
+
+pub fn begin(id: [u8; 16], named: u8, free: u8) -> u8
+    ensures { λ r. ⌜ ((tb : Table) → named ≡ placeNamed id tb → free ≡ placeOf isFree (tb .transactions) → r ≡ firstOf (beginChecks tb id)) ⌝ }
 {
     let zero = identifiers::is_zero(id);
     if zero {
         return refusal::ZERO_NAMED;
     }
-    let p = places::place_named(table, id);
-    let live = p != 0;
+    let live = named != 0;
     if live {
         return refusal::ALREADY_LIVE;
     }
-    let free = places::place_free(table);
     let full = free == 0;
     if full {
         return refusal::FULL;
@@ -95,27 +105,31 @@ fn begin(table: Table, id: [u8; 16]) -> u8
     refusal::ACCEPTED
 }
 
-fn enlist(table: Table, id: [u8; 16], rm: [u8; 16], n: u32, kind: u8) -> u8
-    ensures { λ r. ⌜ r ≡ firstOf (enlistChecks table id rm n kind) ⌝ }
+pub fn enlist(
+    id: [u8; 16],
+    rm: [u8; 16],
+    n: u32,
+    named: u8,
+    state: u8,
+    already: bool,
+    full: bool,
+) -> u8
+    ensures { λ r. ⌜ ((tb : Table) (k : ℕ) → named ≡ placeNamed id tb → state ≡ stateAt named tb → already ≡ heldAlready tb named rm n k → full ≡ fullFor tb named → r ≡ firstOf (enlistChecks tb id rm n k)) ⌝ }
 {
     let either = is_either_zero(id, rm);
     let zero = or(either, n == 0);
     if zero {
         return refusal::ZERO_NAMED;
     }
-    let p = places::place_named(table, id);
-    let dead = p == 0;
+    let dead = named == 0;
     if dead {
         return refusal::NOT_LIVE;
     }
-    let x = places::transaction_at(table, p);
-    let early = is_early(x.state);
+    let early = is_early(state);
     if early {
-        let already = is_held_already(table, p, rm, n, kind);
         if already {
             return refusal::ALREADY_HELD;
         }
-        let full = is_full_for(table, p);
         if full {
             return refusal::FULL;
         }
@@ -124,54 +138,50 @@ fn enlist(table: Table, id: [u8; 16], rm: [u8; 16], n: u32, kind: u8) -> u8
     refusal::TRANSACTION_STATE
 }
 
-fn commit(table: Table, id: [u8; 16]) -> u8
-    ensures { λ r. ⌜ r ≡ firstOf (commitChecks table id) ⌝ }
+pub fn commit(id: [u8; 16], named: u8, state: u8) -> u8
+    ensures { λ r. ⌜ ((tb : Table) → named ≡ placeNamed id tb → state ≡ stateAt named tb → r ≡ firstOf (commitChecks tb id)) ⌝ }
 {
     let zero = identifiers::is_zero(id);
     if zero {
         return refusal::ZERO_NAMED;
     }
-    let p = places::place_named(table, id);
-    let dead = p == 0;
+    let dead = named == 0;
     if dead {
         return refusal::NOT_LIVE;
     }
-    let x = places::transaction_at(table, p);
-    let active = x.state == transaction_state::ACTIVE;
+    let active = state == transaction_state::ACTIVE;
     if active {
         return refusal::ACCEPTED;
     }
     refusal::TRANSACTION_STATE
 }
 
-fn rollback(table: Table, id: [u8; 16]) -> u8
-    ensures { λ r. ⌜ r ≡ firstOf (rollbackChecks table id) ⌝ }
+pub fn rollback(id: [u8; 16], named: u8, state: u8) -> u8
+    ensures { λ r. ⌜ ((tb : Table) → named ≡ placeNamed id tb → state ≡ stateAt named tb → r ≡ firstOf (rollbackChecks tb id)) ⌝ }
 {
     let zero = identifiers::is_zero(id);
     if zero {
         return refusal::ZERO_NAMED;
     }
-    let p = places::place_named(table, id);
-    let dead = p == 0;
+    let dead = named == 0;
     if dead {
         return refusal::NOT_LIVE;
     }
-    let x = places::transaction_at(table, p);
-    let early = is_early(x.state);
+    let early = is_early(state);
     if early {
         return refusal::ACCEPTED;
     }
     refusal::TRANSACTION_STATE
 }
 
-fn about_one(table: Table, n: u32, act: Act) -> u8
-    ensures { λ r. ⌜ r ≡ firstOf (aboutOneChecks table n act) ⌝ }
+// Of an event about the enlistment with number n: e is what was found by it.
+pub fn about_one(n: u32, act: Act, e: Enlistment) -> u8
+    ensures { λ r. ⌜ ((tb : Table) → e ≡ numbered n tb → r ≡ firstOf (aboutOneChecks tb n act)) ⌝ }
 {
     let zero = n == 0;
     if zero {
         return refusal::ZERO_NAMED;
     }
-    let e = places::numbered(table, n);
     let missing = e.number != n;
     if missing {
         return refusal::NOT_HELD;
@@ -184,81 +194,34 @@ fn about_one(table: Table, n: u32, act: Act) -> u8
     refusal::ACCEPTED
 }
 
-fn ask(table: Table, id: [u8; 16], rm: [u8; 16]) -> u8
-    ensures { λ r. ⌜ r ≡ firstOf (askChecks table id rm) ⌝ }
+// `lacks`: the transaction has no durable enlistment of the resource manager that isn't Done.
+pub fn ask(id: [u8; 16], rm: [u8; 16], state: u8, lacks: bool) -> u8
+    ensures { λ r. ⌜ ((tb : Table) → state ≡ stateAt (placeNamed id tb) tb → lacks ≡ none (isUndone rm) (held (placeNamed id tb) tb) → r ≡ firstOf (askChecks tb id rm)) ⌝ }
 {
     let zero = is_either_zero(id, rm);
     if zero {
         return refusal::ZERO_NAMED;
     }
-    let p = places::place_named(table, id);
-    let x = places::transaction_at(table, p);
-    let over = is_over(x.state);
+    let over = is_over(state);
     if over {
         return refusal::ACCEPTED;
     }
-    let at = managers::place_undone(table, p, rm);
-    let lacks = at == 0;
     if lacks {
         return refusal::NO_SUCH_DURABLE;
     }
     refusal::ACCEPTED
 }
 
-fn reenlisted(table: Table, rm: [u8; 16]) -> u8
-    ensures { λ r. ⌜ r ≡ firstOf (reenlistedChecks table rm) ⌝ }
+// `elsewhere`: one that isn't Done stands elsewhere than in Failed-to-notify.
+pub fn reenlisted(rm: [u8; 16], elsewhere: bool) -> u8
+    ensures { λ r. ⌜ ((tb : Table) → elsewhere ≡ any (λ f. isUndone rm f && not (isIn enlistment.failedToNotify f)) (tb .enlistments) → r ≡ firstOf (reenlistedChecks tb rm)) ⌝ }
 {
     let zero = identifiers::is_zero(rm);
     if zero {
         return refusal::ZERO_NAMED;
     }
-    let at = managers::place_elsewhere(table, rm);
-    let elsewhere = at != 0;
     if elsewhere {
         return refusal::NOT_FAILED_TO_NOTIFY;
     }
     refusal::ACCEPTED
-}
-
-// Of a sound table, and a log of its capacity.
-fn of_event(table: Table, event: Event, length: usize) -> u8
-    requires { ⌜ (soundOf table ≡ true) × (length ≡ table .capacity) ⌝ }
-    ensures { λ r. ⌜ r ≡ refusalOf table event length ⌝ }
-{
-    let act = event.act;
-    let t = event.tx;
-    let id = t.0;
-    let m = event.rm;
-    let rm = m.0;
-    match act {
-        Act::Begin => begin(table, id),
-        Act::Enlist(n, kind, _) => {
-            let k = reactions::kind_of(kind);
-            enlist(table, id, rm, n, k)
-        }
-        Act::Commit => commit(table, id),
-        Act::ZeroDone(n) => about_one(table, n, act),
-        Act::Vote(n, _) => about_one(table, n, act),
-        Act::Rollback => rollback(table, id),
-        Act::Reply(n, _) => about_one(table, n, act),
-        Act::Ack(n) => about_one(table, n, act),
-        Act::Lost(n) => about_one(table, n, act),
-        Act::Ask => ask(table, id, rm),
-        Act::Reenlisted => reenlisted(table, rm),
-    }
-}
-
-// Of a table, an event and the lent log's length; the caller says whether the table is sound.
-pub fn refusal(table: Table, event: Event, length: usize, sound: bool) -> u8
-    requires { ⌜ sound ≡ soundOf table ⌝ }
-    ensures { λ r. ⌜ r ≡ refusalOf table event length ⌝ }
-{
-    let capacity = table.capacity as usize;
-    if sound {
-        if length == capacity {
-            return of_event(table, event, length);
-        }
-        return refusal::LOG_LENGTH;
-    }
-    refusal::NOT_SOUND
 }

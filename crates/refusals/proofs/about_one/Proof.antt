@@ -10,10 +10,9 @@ unfolding firstOf
 about-one-spec =
     tie.close
     (tie.spec
-    (λ c. rw (c .if1 .taken))
+    (λ c tb p. rw (c .if1 .taken))
+    (λ c tb p. rw (c .before .before .if1 .left, held-has (c .before .before .before .args .n) tb (c .before .before .if1 .left), ← p, c .if2 .taken))
     (λ c κs. search needs)
-    (λ c. rw (c .before .before .before .if1 .left, held-has (c .before .before .before .before .args .n) (c .before .before .before .before .args .table) (c .before .before .before .if1 .left), ← c .before .before .numbered .ensures, c .if2 .taken))
     (λ c κs. search needs)
-    (λ c κs. search needs)
-    (λ c. rw (c .before .before .before .before .before .before .if1 .left, held-has (c .before .before .before .before .before .before .before .args .n) (c .before .before .before .before .before .before .before .args .table) (c .before .before .before .before .before .before .if1 .left), ← c .before .before .before .before .before .numbered .ensures, c .before .before .before .if2 .left, ← c .before .before .reaction .ensures, ← c .before .is-refused .ensures, c .if3 .taken))
-    (λ c. rw (c .before .before .before .before .before .before .if1 .left, held-has (c .before .before .before .before .before .before .before .args .n) (c .before .before .before .before .before .before .before .args .table) (c .before .before .before .before .before .before .if1 .left), ← c .before .before .before .before .before .numbered .ensures, c .before .before .before .if2 .left, ← c .before .before .reaction .ensures, ← c .before .is-refused .ensures, c .if3 .left)))
+    (λ c tb p. rw (c .before .before .before .before .before .if1 .left, held-has (c .before .before .before .before .before .before .args .n) tb (c .before .before .before .before .before .if1 .left), ← p, c .before .before .before .if2 .left, ← c .before .before .reaction .ensures, ← c .before .is-refused .ensures, c .if3 .taken))
+    (λ c tb p. rw (c .before .before .before .before .before .if1 .left, held-has (c .before .before .before .before .before .before .args .n) tb (c .before .before .before .before .before .if1 .left), ← p, c .before .before .before .if2 .left, ← c .before .before .reaction .ensures, ← c .before .is-refused .ensures, c .if3 .left)))

@@ -13,9 +13,7 @@ begin-spec =
     tie.close
     (tie.spec
     (λ c κs. search needs)
-    (λ c. rw (sym (c .before .is-zero .ensures) ∙ c .if1 .taken))
-    (λ c κs. search needs)
-    (λ c. rw (sym (c .before .before .before .is-zero .ensures) ∙ c .before .before .if1 .left, ← c .before .place-named .ensures, c .if2 .taken))
-    (λ c κs. search needs)
-    (λ c. rw (sym (c .before .before .before .before .before .is-zero .ensures) ∙ c .before .before .before .before .if1 .left, ← c .before .before .before .place-named .ensures, c .before .before .if2 .left, any-place isFree, ← c .before .place-free .ensures, c .if3 .taken))
-    (λ c. rw (sym (c .before .before .before .before .before .is-zero .ensures) ∙ c .before .before .before .before .if1 .left, ← c .before .before .before .place-named .ensures, c .before .before .if2 .left, any-place isFree, ← c .before .place-free .ensures, c .if3 .left)))
+    (λ c tb p q. rw (sym (c .before .is-zero .ensures) ∙ c .if1 .taken))
+    (λ c tb p q. rw (sym (c .before .before .is-zero .ensures) ∙ c .before .if1 .left, ← p, c .if2 .taken))
+    (λ c tb p q. rw (sym (c .before .before .before .is-zero .ensures) ∙ c .before .before .if1 .left, ← p, c .before .if2 .left, any-place isFree, ← q, c .if3 .taken))
+    (λ c tb p q. rw (sym (c .before .before .before .is-zero .ensures) ∙ c .before .before .if1 .left, ← p, c .before .if2 .left, any-place isFree, ← q, c .if3 .left)))

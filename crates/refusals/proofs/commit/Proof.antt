@@ -1,5 +1,5 @@
 -- The checks of the definition, in its order.
-use mathlib.Core.Path.{sym, ap, _∙_}
+use mathlib.Core.Path.{sym, _∙_}
 use borrow.Author.Needs.{needs}
 use Rattle.rules.specs.Refusals.{firstOf}
 use Rattle.refusals.proofs.commit.Statement.{statement}
@@ -11,9 +11,7 @@ commit-spec =
     tie.close
     (tie.spec
     (λ c κs. search needs)
-    (λ c. rw (sym (c .before .is-zero .ensures) ∙ c .if1 .taken))
-    (λ c κs. search needs)
-    (λ c. rw (sym (c .before .before .before .is-zero .ensures) ∙ c .before .before .if1 .left, ← c .before .place-named .ensures, c .if2 .taken))
-    (λ c κs. search needs)
-    (λ c. rw (sym (c .before .before .before .before .before .before .is-zero .ensures) ∙ c .before .before .before .before .before .if1 .left, ← c .before .before .before .before .place-named .ensures, c .before .before .before .if2 .left, ← ap (λ x. x .state) (c .before .before .transaction-at .ensures), c .if3 .taken))
-    (λ c. rw (sym (c .before .before .before .before .before .before .is-zero .ensures) ∙ c .before .before .before .before .before .if1 .left, ← c .before .before .before .before .place-named .ensures, c .before .before .before .if2 .left, ← ap (λ x. x .state) (c .before .before .transaction-at .ensures), c .if3 .left)))
+    (λ c tb p q. rw (sym (c .before .is-zero .ensures) ∙ c .if1 .taken))
+    (λ c tb p q. rw (sym (c .before .before .is-zero .ensures) ∙ c .before .if1 .left, ← p, c .if2 .taken))
+    (λ c tb p q. rw (sym (c .before .before .before .is-zero .ensures) ∙ c .before .before .if1 .left, ← p, c .before .if2 .left, ← q, c .if3 .taken))
+    (λ c tb p q. rw (sym (c .before .before .before .is-zero .ensures) ∙ c .before .before .if1 .left, ← p, c .before .if2 .left, ← q, c .if3 .left)))

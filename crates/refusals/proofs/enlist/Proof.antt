@@ -1,5 +1,4 @@
 -- The checks of the definition, in its order.
-use mathlib.Core.Path.{ap}
 use borrow.Author.Needs.{needs}
 use Rattle.rules.specs.Refusals.{firstOf}
 use Rattle.refusals.proofs.enlist.Statement.{statement}
@@ -12,14 +11,10 @@ enlist-spec =
     (tie.spec
     (λ c κs. search needs)
     (λ c κs. search needs)
-    (λ c. rw (← c .before .before .is-either-zero .ensures, ← c .before .or .ensures, c .if1 .taken))
+    (λ c tb k p q h f. rw (← c .before .before .is-either-zero .ensures, ← c .before .or .ensures, c .if1 .taken))
+    (λ c tb k p q h f. rw (← c .before .before .before .is-either-zero .ensures, ← c .before .before .or .ensures, c .before .if1 .left, ← p, c .if2 .taken))
     (λ c κs. search needs)
-    (λ c. rw (← c .before .before .before .before .is-either-zero .ensures, ← c .before .before .before .or .ensures, c .before .before .if1 .left, ← c .before .place-named .ensures, c .if2 .taken))
-    (λ c κs. search needs)
-    (λ c κs. search needs)
-    (λ c κs. search needs)
-    (λ c. rw (← c .before .before .before .before .before .before .before .before .before .is-either-zero .ensures, ← c .before .before .before .before .before .before .before .before .or .ensures, c .before .before .before .before .before .before .before .if1 .left, ← c .before .before .before .before .before .before .place-named .ensures, c .before .before .before .before .before .if2 .left, ← ap (λ x. x .state) (c .before .before .before .before .transaction-at .ensures), ← c .before .before .before .is-early .ensures, c .before .before .if3 .taken, ← c .before .is-held-already .ensures, c .if4 .taken))
-    (λ c κs. search needs)
-    (λ c. rw (← c .before .before .before .before .before .before .before .before .before .before .before .is-either-zero .ensures, ← c .before .before .before .before .before .before .before .before .before .before .or .ensures, c .before .before .before .before .before .before .before .before .before .if1 .left, ← c .before .before .before .before .before .before .before .before .place-named .ensures, c .before .before .before .before .before .before .before .if2 .left, ← ap (λ x. x .state) (c .before .before .before .before .before .before .transaction-at .ensures), ← c .before .before .before .before .before .is-early .ensures, c .before .before .before .before .if3 .taken, ← c .before .before .before .is-held-already .ensures, c .before .before .if4 .left, ← c .before .is-full-for .ensures, c .if5 .taken))
-    (λ c. rw (← c .before .before .before .before .before .before .before .before .before .before .before .is-either-zero .ensures, ← c .before .before .before .before .before .before .before .before .before .before .or .ensures, c .before .before .before .before .before .before .before .before .before .if1 .left, ← c .before .before .before .before .before .before .before .before .place-named .ensures, c .before .before .before .before .before .before .before .if2 .left, ← ap (λ x. x .state) (c .before .before .before .before .before .before .transaction-at .ensures), ← c .before .before .before .before .before .is-early .ensures, c .before .before .before .before .if3 .taken, ← c .before .before .before .is-held-already .ensures, c .before .before .if4 .left, ← c .before .is-full-for .ensures, c .if5 .left))
-    (λ c. rw (← c .before .before .before .before .before .before .before .is-either-zero .ensures, ← c .before .before .before .before .before .before .or .ensures, c .before .before .before .before .before .if1 .left, ← c .before .before .before .before .place-named .ensures, c .before .before .before .if2 .left, ← ap (λ x. x .state) (c .before .before .transaction-at .ensures), ← c .before .is-early .ensures, c .if3 .left)))
+    (λ c tb k p q h f. rw (← c .before .before .before .before .before .before .is-either-zero .ensures, ← c .before .before .before .before .before .or .ensures, c .before .before .before .before .if1 .left, ← p, c .before .before .before .if2 .left, ← q, ← c .before .before .is-early .ensures, c .before .if3 .taken, ← h, c .if4 .taken))
+    (λ c tb k p q h f. rw (← c .before .before .before .before .before .before .before .is-either-zero .ensures, ← c .before .before .before .before .before .before .or .ensures, c .before .before .before .before .before .if1 .left, ← p, c .before .before .before .before .if2 .left, ← q, ← c .before .before .before .is-early .ensures, c .before .before .if3 .taken, ← h, c .before .if4 .left, ← f, c .if5 .taken))
+    (λ c tb k p q h f. rw (← c .before .before .before .before .before .before .before .is-either-zero .ensures, ← c .before .before .before .before .before .before .or .ensures, c .before .before .before .before .before .if1 .left, ← p, c .before .before .before .before .if2 .left, ← q, ← c .before .before .before .is-early .ensures, c .before .before .if3 .taken, ← h, c .before .if4 .left, ← f, c .if5 .left))
+    (λ c tb k p q h f. rw (← c .before .before .before .before .before .is-either-zero .ensures, ← c .before .before .before .before .or .ensures, c .before .before .before .if1 .left, ← p, c .before .before .if2 .left, ← q, ← c .before .is-early .ensures, c .if3 .left)))

@@ -1,7 +1,6 @@
 -- The checks of the definition, in its order.
 use mathlib.Core.Path.{sym, _∙_}
 use borrow.Author.Needs.{needs}
-use Rattle.lists.proofs.Loops.{any-place}
 use Rattle.rules.specs.Refusals.{firstOf}
 use Rattle.refusals.proofs.reenlisted.Statement.{statement}
 use Rattle.refusals.proofs.reenlisted.Tie as tie
@@ -12,7 +11,6 @@ reenlisted-spec =
     tie.close
     (tie.spec
     (λ c κs. search needs)
-    (λ c. rw (sym (c .before .is-zero .ensures) ∙ c .if1 .taken))
-    (λ c κs. search needs)
-    (λ c. rw (sym (c .before .before .before .is-zero .ensures) ∙ c .before .before .if1 .left, any-place, ← c .before .place-elsewhere .ensures, c .if2 .taken))
-    (λ c. rw (sym (c .before .before .before .is-zero .ensures) ∙ c .before .before .if1 .left, any-place, ← c .before .place-elsewhere .ensures, c .if2 .left)))
+    (λ c tb p. rw (sym (c .before .is-zero .ensures) ∙ c .if1 .taken))
+    (λ c tb p. rw (sym (c .before .before .is-zero .ensures) ∙ c .before .if1 .left, ← p, c .if2 .taken))
+    (λ c tb p. rw (sym (c .before .before .is-zero .ensures) ∙ c .before .if1 .left, ← p, c .if2 .left)))
