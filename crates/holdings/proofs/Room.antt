@@ -1,0 +1,50 @@
+-- The holding has as much room in the log as the table has beside the forget records of the other open ones: putting it back opens no other.
+use Prim.Native.Nat.{ℕ, suc, _+_, _*_, _-_, _≤_}
+use native.Mathlib.Omega.{arith}
+use mathlib.Core.Path.{_≡_, refl, sym, _∙_, ap}
+use mathlib.Core.Logic.{_⊎_, inl, inr}
+use mathlib.Core.Bool.{Bool, true, false, cond}
+use mathlib.Core.List.{List, [], _∷_}
+use lib.Dec.{eqb, ltb}
+use lib.ListN.{length, getD}
+use borrow.Author.Tests.{eqb-true, ne-eqb}
+use Rattle.lists.specs.Lists.{filter}
+use Rattle.lists.specs.Members.{Each}
+use Rattle.lists.proofs.Tests.{by-test, same-test}
+use Rattle.lists.proofs.Places.{IsPlace, at-change-other, length-change}
+use Rattle.rules.specs.declared.Enlistment.{Enlistment}
+use Rattle.rules.specs.declared.Table.{Table}
+use Rattle.rules.specs.Sizes.{recordSize}
+use Rattle.rules.specs.Table.{noTransaction, noEnlistment, transactionAt, stateAt, heldBy, held}
+use Rattle.rules.specs.Sound.{isOpen, openCount}
+use Rattle.rules.specs.Events.{lacksRoom}
+use Rattle.rules.proofs.Along.{oneIf}
+use Rattle.rules.proofs.Only.{Only, open-changes}
+use Rattle.holdings.specs.Within.{refillFrom, within}
+
+-- each is held by p, or by none
+abbrev pub Owned : ℕ → Table → Type 0
+Owned p t = Each (λ e. (e .holder ≡ p) ⊎ (e .holder ≡ 0)) (t .enlistments)
+
+held-refill : (p q : ℕ) → (q ≡ p → ⊥) → (q ≡ 0 → ⊥) → (k : ℕ) (hs xs : List Enlistment) → ((i : ℕ) → heldBy q (getD hs i noEnlistment) ≡ false) → filter (heldBy q) (refillFrom (heldBy p) k hs xs) ≡ filter (heldBy q) xs
+unfolding refillFrom filter
+held-refill p q n z k hs [] h = refl
+held-refill p q n z k hs (x ∷ xs) h = by-test (heldBy p x)
+    (λ t. rw (t, h k, ne-eqb (x .holder) q (λ e. n (sym e ∙ eqb-true (x .holder) p t))) (held-refill p q n z (suc k) hs xs h))
+    (λ t. rw t (ap (λ l. cond (heldBy q x) (x ∷ l) l) (held-refill p q n z k hs xs h)))
+
+module _ (tb : Table) (p : ℕ) (there : IsPlace (tb .transactions) p) where
+  not-others : (t : Table) → Owned p t → (q : ℕ) → (q ≡ p → ⊥) → (q ≡ 0 → ⊥) → (i : ℕ) → heldBy q (getD (t .enlistments) i noEnlistment) ≡ false
+  not-others t o q n z i = at-each (t .enlistments) o i
+    where
+      at-each : (es : List Enlistment) → Each (λ e. (e .holder ≡ p) ⊎ (e .holder ≡ 0)) es → (i : ℕ) → heldBy q (getD es i noEnlistment) ≡ false
+      at-each es o i = ?
+
+  only : (t : Table) → Owned p t → Only p tb (within tb p t)
+  unfolding held
+  only t o = record {
+    transactions = λ q n. at-change-other (λ x. transactionAt p t) noTransaction (tb .transactions) n;
+    enlistments = λ q n z. held-refill p q n z 0 (t .enlistments) (tb .enlistments) (not-others t o q n z);
+    as-many = length-change (λ x. transactionAt p t) 1 p (tb .transactions);
+    same-capacity = refl;
+  }
