@@ -1,5 +1,5 @@
 -- The holding has as much room in the log as the table has beside the forget records of the other open ones: putting it back opens no other.
-use Prim.Native.Nat.{ℕ, suc, _+_, _*_, _-_, _≤_}
+use Prim.Native.Nat.{ℕ, zero, suc, _+_, _*_, _-_, _≤_}
 use native.Mathlib.Omega.{arith}
 use mathlib.Core.Path.{_≡_, refl, sym, _∙_, ap}
 use mathlib.Core.Logic.{_⊎_, inl, inr}
@@ -10,7 +10,7 @@ use lib.ListN.{length, getD}
 use borrow.Author.Tests.{eqb-true, ne-eqb}
 use Rattle.lists.specs.Lists.{filter}
 use Rattle.lists.specs.Members.{Each}
-use Rattle.lists.proofs.Tests.{by-test, same-test}
+use Rattle.lists.proofs.Tests.{by-test, by-either, same-test, each-head, each-rest}
 use Rattle.lists.proofs.Places.{IsPlace, at-change-other, length-change}
 use Rattle.rules.specs.declared.Enlistment.{Enlistment}
 use Rattle.rules.specs.declared.Table.{Table}
@@ -19,7 +19,7 @@ use Rattle.rules.specs.Table.{noTransaction, noEnlistment, transactionAt, state
 use Rattle.rules.specs.Sound.{isOpen, openCount}
 use Rattle.rules.specs.Events.{lacksRoom}
 use Rattle.rules.proofs.Along.{oneIf}
-use Rattle.rules.proofs.Only.{Only, open-changes}
+use Rattle.rules.proofs.Only.{Only, openAt, open-changes}
 use Rattle.holdings.specs.Within.{refillFrom, within}
 
 -- each is held by p, or by none
@@ -33,17 +33,19 @@ held-refill p q n z k hs (x ∷ xs) h = by-test (heldBy p x)
     (λ t. rw (t, h k, ne-eqb (x .holder) q (λ e. n (sym e ∙ eqb-true (x .holder) p t))) (held-refill p q n z (suc k) hs xs h))
     (λ t. rw t (ap (λ l. cond (heldBy q x) (x ∷ l) l) (held-refill p q n z k hs xs h)))
 
+owned-at : (p q : ℕ) → (q ≡ p → ⊥) → (q ≡ 0 → ⊥) → (es : List Enlistment) → Each (λ e. (e .holder ≡ p) ⊎ (e .holder ≡ 0)) es → (i : ℕ) → heldBy q (getD es i noEnlistment) ≡ false
+owned-at p q n z [] o i = ne-eqb 0 q (λ e. z (sym e))
+owned-at p q n z (x ∷ es) o zero = by-either (λ e. ne-eqb (x .holder) q (λ d. n (sym d ∙ e))) (λ e. ne-eqb (x .holder) q (λ d. z (sym d ∙ e))) (each-head o)
+owned-at p q n z (x ∷ es) o (suc i) = owned-at p q n z es (each-rest o) i
+
 module _ (tb : Table) (p : ℕ) (there : IsPlace (tb .transactions) p) where
   not-others : (t : Table) → Owned p t → (q : ℕ) → (q ≡ p → ⊥) → (q ≡ 0 → ⊥) → (i : ℕ) → heldBy q (getD (t .enlistments) i noEnlistment) ≡ false
-  not-others t o q n z i = at-each (t .enlistments) o i
-    where
-      at-each : (es : List Enlistment) → Each (λ e. (e .holder ≡ p) ⊎ (e .holder ≡ 0)) es → (i : ℕ) → heldBy q (getD es i noEnlistment) ≡ false
-      at-each es o i = ?
+  not-others t o q n z i = owned-at p q n z (t .enlistments) o i
 
   only : (t : Table) → Owned p t → Only p tb (within tb p t)
   unfolding held
   only t o = record {
-    transactions = λ q n. at-change-other (λ x. transactionAt p t) noTransaction (tb .transactions) n;
+    transactions = λ q n. at-change-other (λ x. transactionAt p t) p q noTransaction (tb .transactions) n;
     enlistments = λ q n z. held-refill p q n z 0 (t .enlistments) (tb .enlistments) (not-others t o q n z);
     as-many = length-change (λ x. transactionAt p t) 1 p (tb .transactions);
     same-capacity = refl;
