@@ -50,3 +50,7 @@ module _ (tb : Table) (p : ℕ) (there : IsPlace (tb .transactions) p) where
     as-many = length-change (λ x. transactionAt p t) 1 p (tb .transactions);
     same-capacity = refl;
   }
+
+  -- others are open beside p: n of them in the table as it was
+  open-within : (t : Table) → Owned p t → openCount (within tb p t) + oneIf (openAt p tb) ≡ openCount tb + oneIf (openAt p (within tb p t))
+  open-within t o = open-changes p tb (within tb p t) (only t o) there

@@ -2,12 +2,14 @@
 
 ghost use mathlib.Core.Path.{_≡_};
 ghost use mathlib.Core.List.{map};
-ghost use Prim.Native.Nat.{_≤_};
+ghost use Prim.Native.Nat.{ℕ, _≤_};
 ghost use lib.ListN.{length, take};
-ghost use Rattle.lists.specs.Lists.{firstOr};
+ghost use Rattle.lists.specs.Lists.{filter, count, firstOr};
 ghost use Rattle.lists.specs.Places.{placeOf, at, changeAt};
-ghost use Rattle.rules.specs.Table.{noTransaction, noEnlistment, isFree, isNamed, isVacant, isNumbered};
-ghost use Rattle.rows.specs.Memory.{transactionIn, numberIn, enlistmentIn};
+ghost use Rattle.rules.specs.Table.{noTransaction, noEnlistment, isFree, isNamed, isVacant, isNumbered, heldBy};
+ghost use Rattle.holdings.specs.Within.{taken, refill};
+ghost use Rattle.rows.specs.Memory.{transactionIn, numberIn, enlistmentIn, tableIn};
+use holdings::Holding;
 use rules::Enlistment;
 use rules::RmId;
 use rules::Transaction;
@@ -274,4 +276,74 @@ pub fn put_enlistment(rows: &mut [[u8; 24]; 128], p: u8, e: Enlistment)
         let row = row_of(e);
         rows[k] = row;
     }
+}
+
+// ---- A transaction with what it holds.
+
+// The transaction at place p, and those that it holds.
+pub fn take_out(
+    heads: &[[u8; 17]; 32],
+    rows: &[[u8; 24]; 128],
+    p: u8,
+    capacity: u32,
+    used: u32,
+) -> Holding
+    requires { ⌜ (length (now heads) ≡ 32) × (length (now rows) ≡ 128) × (length (filter (heldBy p) (map enlistmentIn (now rows))) ≤ 16) ⌝ }
+    ensures { λ r. ⌜ ((size : ℕ) → r ≡ taken p capacity (tableIn (now (heads .entry)) (now (rows .entry)) size used)) ⌝ }
+{
+    let x = transaction_at(heads, p);
+    let empty = places::no_enlistment();
+    let enlistments = [empty; 16];
+    let mut h = Holding {
+        enlistments: enlistments,
+        transaction: x,
+        place: p,
+        capacity: capacity,
+        used: used,
+    };
+    let mut k: usize = 0;
+    let mut i: usize = 0;
+    while i < 128 {
+        let row = rows[i];
+        let mine = row[20] == p;
+        i += 1;
+        if mine {
+            let e = enlistment_in(row);
+            h.enlistments[k] = e;
+            k += 1;
+        }
+    }
+    h
+}
+
+// Each of those that its transaction held is what became of it.
+fn put_rows(rows: &mut [[u8; 24]; 128], h: Holding)
+    requires { ⌜ (length (now rows) ≡ 128) × (count (heldBy (h .place)) (map enlistmentIn (now rows)) ≤ 16) ⌝ }
+    ensures { λ r. ⌜ (length (now (rows .exit)) ≡ 128) × (map enlistmentIn (now (rows .exit)) ≡ refill (heldBy (h .place)) (h .enlistments) (map enlistmentIn (now (rows .entry)))) ⌝ }
+{
+    let p = h.place;
+    let mut k: usize = 0;
+    let mut i: usize = 0;
+    while i < 128 {
+        let row = rows[i];
+        let mine = row[20] == p;
+        if mine {
+            let e = h.enlistments[k];
+            let next = row_of(e);
+            rows[i] = next;
+            k += 1;
+        }
+        i += 1;
+    }
+}
+
+pub fn put_back(heads: &mut [[u8; 17]; 32], rows: &mut [[u8; 24]; 128], h: Holding)
+    requires { ⌜ (length (now heads) ≡ 32) × (length (now rows) ≡ 128) × (count (heldBy (h .place)) (map enlistmentIn (now rows)) ≤ 16) ⌝ }
+    ensures { λ r. ⌜ (length (now (heads .exit)) ≡ 32) × (length (now (rows .exit)) ≡ 128)
+        × (map transactionIn (now (heads .exit)) ≡ changeAt (h .place) (λ x. h .transaction) (map transactionIn (now (heads .entry))))
+        × (map enlistmentIn (now (rows .exit)) ≡ refill (heldBy (h .place)) (h .enlistments) (map enlistmentIn (now (rows .entry)))) ⌝ }
+{
+    put_rows(rows, h);
+    let x = h.transaction;
+    put_transaction(heads, h.place, x);
 }
