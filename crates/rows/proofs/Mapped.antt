@@ -22,22 +22,22 @@ map-set g (y ∷ ys) (suc i) x = ap (λ l. g y ∷ l) (map-set g ys i x)
 
 -- ── the first that passes, and whether any does ─────────────────────────────────────────────────────────────────
 
-module _ {A B : Type 0} {f : B → Bool} {g : A → B} {n : ℕ} {l : List A} {i : ℕ} where
-  pub first-miss : {e : B} (d : A) → Looked (λ k. firstOr e f) n (map g l) i → i < n → f (g (getD l i d)) ≡ false → Looked (λ k. firstOr e f) n (map g l) (i + 1)
+module _ {A B : Type 0} (f : B → Bool) (g : A → B) (l : List A) (d : A) {n i : ℕ} where
+  pub first-miss : (e : B) → Looked (λ k. firstOr e f) n (map g l) i → i < n → f (g (getD l i d)) ≡ false → Looked (λ k. firstOr e f) n (map g l) (i + 1)
   unfolding firstOr
-  first-miss d p h t = look-next (g d) p h (λ xs. rw (List·getD-map g l i d, t))
+  first-miss e p h t = look-next (g d) p h (λ xs. rw (List·getD-map g l i d, t))
 
-  pub first-hit : {e r : B} (d : A) → Looked (λ k. firstOr e f) n (map g l) i → i < n → f (g (getD l i d)) ≡ true → r ≡ g (getD l i d) → r ≡ firstOr e f (map g l)
+  pub first-hit : {r : B} (e : B) → Looked (λ k. firstOr e f) n (map g l) i → i < n → f (g (getD l i d)) ≡ true → r ≡ g (getD l i d) → r ≡ firstOr e f (map g l)
   unfolding firstOr
-  first-hit d p h t q = look-stop (g d) p h (λ xs. rw (List·getD-map g l i d, t) (sym q))
+  first-hit e p h t q = look-stop (g d) p h (λ xs. rw (List·getD-map g l i d, t) (sym q))
 
-  pub any-miss : (d : A) → Looked (λ k. any f) n (map g l) i → i < n → f (g (getD l i d)) ≡ false → Looked (λ k. any f) n (map g l) (i + 1)
+  pub any-miss : Looked (λ k. any f) n (map g l) i → i < n → f (g (getD l i d)) ≡ false → Looked (λ k. any f) n (map g l) (i + 1)
   unfolding any
-  any-miss d p h t = look-next (g d) p h (λ xs. rw (List·getD-map g l i d, t))
+  any-miss p h t = look-next (g d) p h (λ xs. rw (List·getD-map g l i d, t))
 
-  pub any-hit : (d : A) → Looked (λ k. any f) n (map g l) i → i < n → f (g (getD l i d)) ≡ true → true ≡ any f (map g l)
+  pub any-hit : Looked (λ k. any f) n (map g l) i → i < n → f (g (getD l i d)) ≡ true → true ≡ any f (map g l)
   unfolding any
-  any-hit d p h t = look-stop (g d) p h (λ xs. rw (List·getD-map g l i d, t))
+  any-hit p h t = look-stop (g d) p h (λ xs. rw (List·getD-map g l i d, t))
 
 -- ── memory that is written until it means a list ────────────────────────────────────────────────────────────────
 

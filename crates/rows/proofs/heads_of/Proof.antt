@@ -11,8 +11,8 @@ pub heads-of-spec : {M : Type 1} → statement M
 heads-of-spec =
     tie.close
     (tie.spec
-    (λ transactions heads₀ i₀ heads i. Written transactionIn 32 transactions heads i)
-    (λ transactions heads₀ i₀ heads i. 32 - i)
+    (λ heads₀ transactions i₀ heads i. Written transactionIn 32 transactions heads i)
+    (λ heads₀ transactions i₀ heads i. 32 - i)
     (λ c. write-start (search long) (c .pre))
     (λ c. search needs)
     (λ c. search needs)

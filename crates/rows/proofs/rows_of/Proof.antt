@@ -11,8 +11,8 @@ pub rows-of-spec : {M : Type 1} → statement M
 rows-of-spec =
     tie.close
     (tie.spec
-    (λ enlistments rows₀ i₀ rows i. Written enlistmentIn 128 enlistments rows i)
-    (λ enlistments rows₀ i₀ rows i. 128 - i)
+    (λ rows₀ enlistments i₀ rows i. Written enlistmentIn 128 enlistments rows i)
+    (λ rows₀ enlistments i₀ rows i. 128 - i)
     (λ c. write-start (search long) (c .pre))
     (λ c. search needs)
     (λ c. search needs)
