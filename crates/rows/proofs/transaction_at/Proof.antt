@@ -1,8 +1,8 @@
 -- Place p is index p - 1; place 0 and those past the end are none.
-use Prim.Native.Nat.{_-_, _<_}
+use Prim.Native.Nat.{_-_}
 use native.Mathlib.Omega.{arith}
 use mathlib.Core.List.{[], map}
-use lib.ListN.{length, length-map, List·getD-eq-default}
+use lib.ListN.{length-map, List·getD-eq-default}
 use borrow.Author.Needs.{needs}
 use borrow.Author.Tests.{eq-eqb, ne-eqb}
 use Rattle.lists.proofs.Places.{at-is}
