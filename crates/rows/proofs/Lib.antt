@@ -1,2 +1,4 @@
 pub mod Spelling
+pub mod Taking
+pub mod Putting
 pub mod Mapped

@@ -414,6 +414,7 @@ pub fn open_count(heads: &[[u8; 17]; 32], rows: &[[u8; 24]; 128]) -> u8
         n = passes::more(n, so);
     }
     n
+}
 
 // ---- A transaction with what it holds.
 
@@ -462,15 +463,16 @@ fn put_rows(rows: &mut [[u8; 24]; 128], h: Holding)
     let mut k: usize = 0;
     let mut i: usize = 0;
     while i < 128 {
-        let row = rows[i];
+        let at = i;
+        let row = rows[at];
         let mine = row[20] == p;
+        i += 1;
         if mine {
             let e = h.enlistments[k];
             let next = row_of(e);
-            rows[i] = next;
+            rows[at] = next;
             k += 1;
         }
-        i += 1;
     }
 }
 
