@@ -1,22 +1,26 @@
--- What a change of held enlistments leaves of them, which one a search finds, and what an ending says.
-use Prim.Native.Nat.{ℕ, _≤_}
-use mathlib.Core.Path.{_≡_}
-use mathlib.Core.Bool.{_&&_}
-use lib.ListN.{length}
-use Rattle.lists.specs.Lists.{firstOr}
-use Rattle.lists.specs.Places.{placeOf, at}
-use Rattle.lists.proofs.Loops.{first-filter, first-at-place}
+-- What is left alone says nothing; and a change of what is held is a change of its table, and keeps the place and the used length.
+use Prim.Native.Nat.{ℕ}
+use mathlib.Core.Path.{_≡_, refl}
+use mathlib.Core.List.{List, []}
 use Rattle.rules.specs.declared.Enlistment.{Enlistment}
-use Rattle.rules.specs.declared.Table.{Table}
-use Rattle.rules.specs.Identifiers.{Id}
-use Rattle.rules.specs.Table.{noEnlistment, held, heldBy, changeHeld}
-use Rattle.rules.specs.Events.{isUndone}
-use Rattle.rules.proofs.Frames.{held-shorter}
+use Rattle.rules.specs.declared.FollowUp.{FollowUp}
+use Rattle.rules.specs.Table.{changeHeld}
+use Rattle.rules.specs.Signals.{rowOf}
+use Rattle.rules.specs.Events.{quietly, follow}
+use Rattle.holdings.specs.declared.Holding.{Holding}
+use Rattle.holdings.specs.Holdings.{alone, withHeld}
+use Rattle.holdings.proofs.Laws.{alone-held}
+use Rattle.endings.specs.declared.Accepted.{Accepted}
+use Rattle.endings.specs.Gives.{Gives, Ready}
 
-pub held-fewer : (p : ℕ) (f : Enlistment → Enlistment) (tb : Table) {u : Table} → u ≡ changeHeld p f tb → length (held p u) ≤ length (held p tb)
-held-fewer p f tb e = rw e (held-shorter p f tb)
+pub quiet-gives : (h : Holding) {r : Accepted} → r ≡ record { holding = h; signals = rowOf [] } → (log : List ℕ) → Gives (h .place) (quietly (alone h) log) r log
+quiet-gives h e log = rw e (record { table = refl; place = refl; signals = refl; log = refl })
 
-pub first-undone : (p : ℕ) (r : Id) (tb : Table) {q : ℕ} {e : Enlistment} → q ≡ placeOf (λ f. heldBy p f && isUndone r f) (tb .enlistments)
-    → e ≡ at noEnlistment q (tb .enlistments) → e ≡ firstOr noEnlistment (isUndone r) (held p tb)
-unfolding held
-first-undone p r tb q e = rw (first-filter (isUndone r) (heldBy p), first-at-place, ← q) e
+module _ (f : Enlistment → Enlistment) (h : Holding) {u : Holding} (e : u ≡ withHeld f h) where
+  pub changed-ready : Ready h → Ready u
+  changed-ready r = rw e r
+
+  -- what follows then follows of the table as it was changed
+  pub changed-follows : (w : FollowUp) (log : List ℕ) {r : Accepted} {out : List ℕ} → Gives (u .place) (follow w (u .place) (alone u) log) r out
+      → Gives (h .place) (follow w (h .place) (changeHeld (h .place) f (alone h)) log) r out
+  changed-follows w log g = rw (e, alone-held f h) at g

@@ -2,15 +2,16 @@
 
 ghost use mathlib.Core.Path.{_≡_};
 ghost use mathlib.Core.List.{List};
-ghost use Prim.Native.Nat.{ℕ, _≤_};
-ghost use lib.ListN.{length};
-ghost use Rattle.rules.specs.Sizes.{heldMost};
+ghost use Prim.Native.Nat.{ℕ};
 ghost use Rattle.lists.specs.Places.{putLowest};
 ghost use Rattle.rules.specs.declared.FollowUp.the-variants as then;
-ghost use Rattle.rules.specs.Table.{held, numbered, isVacant, withEnlistments};
-ghost use Rattle.rules.specs.Events.{zeroAtOnce, beginOf, enlistOf, follow, react, reactedOf, askOf};
-ghost use Rattle.endings.specs.Gives.{Gives, usedMost};
+ghost use Rattle.rules.specs.Table.{transactionAt, isVacant, withEnlistments};
+ghost use Rattle.rules.specs.Events.{zeroAtOnce, beginOf, enlistOf, reactionOf, follow, react, askOf};
+ghost use Rattle.rules.specs.Step.{doneStep, answerOf};
+ghost use Rattle.holdings.specs.Holdings.{alone};
+ghost use Rattle.endings.specs.Gives.{Gives, Ready};
 use endings::Accepted;
+use holdings::Holding;
 use passes::Change;
 use rules::Act;
 use rules::Enlistment;
@@ -20,15 +21,17 @@ use rules::Mark;
 use rules::Name;
 use rules::Reaction;
 use rules::RmId;
+use rules::Stepped;
 use rules::Table;
 use rules::Transaction;
 use rules::TxId;
 use rules::enlistment_state;
 use rules::kinds;
+use rules::refusal;
 use rules::transaction_state;
 
-pub fn begin(table: Table, id: [u8; 16]) -> Accepted
-    ensures { λ r. ⌜ ((log : List ℕ) → Gives (beginOf id table log) r log) ⌝ }
+pub fn begin(table: Table, id: [u8; 16]) -> Stepped
+    ensures { λ r. ⌜ ((log : List ℕ) → (r ≡ answerOf (doneStep (beginOf id table log))) × (log ≡ beginOf id table log .log)) ⌝ }
 {
     let x = Transaction {
         id: TxId(id),
@@ -36,7 +39,12 @@ pub fn begin(table: Table, id: [u8; 16]) -> Accepted
     };
     let p = places::place_free(table);
     let after = places::put_transaction(table, p, x);
-    endings::quietly(after)
+    let signals = signals::to_none();
+    Stepped {
+        refusal: refusal::ACCEPTED,
+        table: after,
+        signals: signals,
+    }
 }
 
 fn is_zero_at_once(kind: Kind, state: u8) -> bool
@@ -59,8 +67,8 @@ fn put_new(table: Table, e: Enlistment) -> Table
 }
 
 // Of the transaction at place p.
-pub fn enlist(table: Table, p: u8, n: u32, rm: [u8; 16], kind: Kind, mark: Mark) -> Accepted
-    ensures { λ r. ⌜ ((log : List ℕ) → Gives (enlistOf p n rm kind mark table log) r log) ⌝ }
+pub fn enlist(table: Table, p: u8, n: u32, rm: [u8; 16], kind: Kind, mark: Mark) -> Stepped
+    ensures { λ r. ⌜ ((log : List ℕ) → (r ≡ answerOf (doneStep (enlistOf p n rm kind mark table log))) × (log ≡ enlistOf p n rm kind mark table log .log)) ⌝ }
 {
     let x = places::transaction_at(table, p);
     let at_once = is_zero_at_once(kind, x.state);
@@ -77,7 +85,8 @@ pub fn enlist(table: Table, p: u8, n: u32, rm: [u8; 16], kind: Kind, mark: Mark)
         };
         let after = put_new(table, e);
         let signals = signals::to_one(Name::Zero, n);
-        return Accepted {
+        return Stepped {
+            refusal: refusal::ACCEPTED,
             table: after,
             signals: signals,
         };
@@ -91,116 +100,120 @@ pub fn enlist(table: Table, p: u8, n: u32, rm: [u8; 16], kind: Kind, mark: Mark)
         state: enlistment_state::ACTIVE,
     };
     let after = put_new(table, e);
-    endings::quietly(after)
+    let signals = signals::to_none();
+    Stepped {
+        refusal: refusal::ACCEPTED,
+        table: after,
+        signals: signals,
+    }
 }
 
-fn phase_one_if_ready(table: Table, p: u8, log: &mut [u8]) -> Accepted
-    requires { ⌜ table .used ≤ usedMost ⌝ }
-    ensures { λ r. ⌜ Gives (follow then.StartPhaseOne p table (now (log .entry))) r (now (log .exit)) ⌝ }
+fn phase_one_if_ready(h: Holding, log: &mut [u8]) -> Accepted
+    requires { ⌜ Ready h ⌝ }
+    ensures { λ r. ⌜ Gives (h .place) (follow then.StartPhaseOne (h .place) (alone h) (now (log .entry))) r (now (log .exit)) ⌝ }
 {
-    let c = passes::count_held(table, p);
+    let c = holdings::count(h);
     let waits = c.phase_zero != 0;
     if waits {
-        return endings::quietly(table);
+        return endings::quietly(h);
     }
-    deciding::start_phase_one(table, p, log)
+    deciding::start_phase_one(h, log)
 }
 
-fn decide_if_ready(table: Table, p: u8, log: &mut [u8]) -> Accepted
-    requires { ⌜ (table .used ≤ usedMost) × (length (held p table) ≤ heldMost) ⌝ }
-    ensures { λ r. ⌜ Gives (follow then.Decide p table (now (log .entry))) r (now (log .exit)) ⌝ }
+fn decide_if_ready(h: Holding, log: &mut [u8]) -> Accepted
+    requires { ⌜ Ready h ⌝ }
+    ensures { λ r. ⌜ Gives (h .place) (follow then.Decide (h .place) (alone h) (now (log .entry))) r (now (log .exit)) ⌝ }
 {
-    let c = passes::count_held(table, p);
+    let c = holdings::count(h);
     let waits = c.preparing != 0;
     if waits {
-        return endings::quietly(table);
+        return endings::quietly(h);
     }
-    deciding::decide(table, p, log)
+    deciding::decide(h, log)
 }
 
-fn end_quietly(table: Table, p: u8, log: &mut [u8]) -> Accepted
-    requires { ⌜ table .used ≤ usedMost ⌝ }
-    ensures { λ r. ⌜ Gives (follow then.End p table (now (log .entry))) r (now (log .exit)) ⌝ }
+fn end_quietly(h: Holding, log: &mut [u8]) -> Accepted
+    requires { ⌜ Ready h ⌝ }
+    ensures { λ r. ⌜ Gives (h .place) (follow then.End (h .place) (alone h) (now (log .entry))) r (now (log .exit)) ⌝ }
 {
-    let after = endings::end_if_done(table, p, log);
+    let after = endings::end_if_done(h, log);
     endings::quietly(after)
 }
 
-fn follow(f: FollowUp, p: u8, table: Table, log: &mut [u8]) -> Accepted
-    requires { ⌜ (table .used ≤ usedMost) × (length (held p table) ≤ heldMost) ⌝ }
-    ensures { λ r. ⌜ Gives (follow f p table (now (log .entry))) r (now (log .exit)) ⌝ }
+fn follow(f: FollowUp, h: Holding, log: &mut [u8]) -> Accepted
+    requires { ⌜ Ready h ⌝ }
+    ensures { λ r. ⌜ Gives (h .place) (follow f (h .place) (alone h) (now (log .entry))) r (now (log .exit)) ⌝ }
 {
     match f {
-        FollowUp::Nothing => endings::quietly(table),
-        FollowUp::StartPhaseOne => phase_one_if_ready(table, p, log),
-        FollowUp::Decide => decide_if_ready(table, p, log),
-        FollowUp::End => end_quietly(table, p, log),
-        FollowUp::Abort => endings::abort(table, p, log),
-        FollowUp::EndWith(name) => endings::end_with(table, p, name, log),
+        FollowUp::Nothing => endings::quietly(h),
+        FollowUp::StartPhaseOne => phase_one_if_ready(h, log),
+        FollowUp::Decide => decide_if_ready(h, log),
+        FollowUp::End => end_quietly(h, log),
+        FollowUp::Abort => endings::abort(h, log),
+        FollowUp::EndWith(name) => endings::end_with(h, name, log),
     }
 }
 
-fn react(r: Reaction, p: u8, n: u32, table: Table, log: &mut [u8]) -> Accepted
-    requires { ⌜ (table .used ≤ usedMost) × (length (held p table) ≤ heldMost) ⌝ }
-    ensures { λ a. ⌜ Gives (react r p n table (now (log .entry))) a (now (log .exit)) ⌝ }
+fn react(r: Reaction, n: u32, h: Holding, log: &mut [u8]) -> Accepted
+    requires { ⌜ Ready h ⌝ }
+    ensures { λ a. ⌜ Gives (h .place) (react r (h .place) n (alone h) (now (log .entry))) a (now (log .exit)) ⌝ }
 {
     match r {
-        Reaction::Refused => endings::quietly(table),
+        Reaction::Refused => endings::quietly(h),
         Reaction::Freed(f) => {
-            let after = passes::change_held(table, p, Change::FreedNumber(n));
-            follow(f, p, after, log)
+            let after = holdings::change(h, Change::FreedNumber(n));
+            follow(f, after, log)
         }
         Reaction::Becomes(state, f) => {
-            let after = passes::change_held(table, p, Change::NumberBecomes(n, state));
-            follow(f, p, after, log)
+            let after = holdings::change(h, Change::NumberBecomes(n, state));
+            follow(f, after, log)
         }
     }
 }
 
-// The event act, about the enlistment with number n.
-pub fn reacted(n: u32, act: Act, table: Table, log: &mut [u8]) -> Accepted
-    requires { ⌜ (table .used ≤ usedMost) × (length (held (numbered n table .holder) table) ≤ heldMost) ⌝ }
-    ensures { λ r. ⌜ Gives (reactedOf n act table (now (log .entry))) r (now (log .exit)) ⌝ }
+// The event act, about the enlistment with number n, of this kind and in this state.
+pub fn reacted(n: u32, act: Act, kind: u8, state: u8, h: Holding, log: &mut [u8]) -> Accepted
+    requires { ⌜ Ready h ⌝ }
+    ensures { λ r. ⌜ Gives (h .place) (react (reactionOf kind state act) (h .place) n (alone h) (now (log .entry))) r (now (log .exit)) ⌝ }
 {
-    let e = places::numbered(table, n);
-    let r = reactions::reaction(e.kind, e.state, act);
-    react(r, e.holder, n, table, log)
+    let r = reactions::reaction(kind, state, act);
+    react(r, n, h, log)
 }
 
-pub fn ask(table: Table, p: u8, rm: [u8; 16]) -> Accepted
-    ensures { λ r. ⌜ ((log : List ℕ) → Gives (askOf p rm table log) r log) ⌝ }
+pub fn ask(h: Holding, rm: [u8; 16]) -> Accepted
+    requires { ⌜ transactionAt (h .place) (alone h) ≡ h .transaction ⌝ }
+    ensures { λ r. ⌜ ((log : List ℕ) → Gives (h .place) (askOf (h .place) rm (alone h) log) r log) ⌝ }
 {
-    let at = managers::place_undone(table, p, rm);
-    let e = places::enlistment_at(table, at);
-    let x = places::transaction_at(table, p);
+    let e = managers::undone(h, rm);
+    let x = h.transaction;
     let unknown = x.state == 0;
     let aborting = x.state == transaction_state::ABORTING;
     let decided = x.state == transaction_state::COMMITTING;
     if unknown {
         let signals = signals::to_one(Name::AnswerAborted, 0);
         return Accepted {
-            table: table,
+            holding: h,
             signals: signals,
         };
     }
     if aborting {
         let signals = signals::to_one(Name::AnswerAborted, 0);
         return Accepted {
-            table: table,
+            holding: h,
             signals: signals,
         };
     }
     if decided {
-        let after = managers::tell_again(table, p, rm);
+        let after = managers::tell_again(h, rm);
         let signals = signals::to_one(Name::AnswerCommitted, e.number);
         return Accepted {
-            table: after,
+            holding: after,
             signals: signals,
         };
     }
     let signals = signals::to_one(Name::AnswerNotYet, e.number);
     Accepted {
-        table: table,
+        holding: h,
         signals: signals,
     }
 }

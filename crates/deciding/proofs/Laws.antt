@@ -1,52 +1,65 @@
--- The commit record: the row of the durable enlistments, as far as it is full, is their list.
-use Prim.Native.Nat.{ℕ, _≤_}
+-- The room for a commit, and its record: the row of the durable enlistments, as far as it is full, is their list.
+use Prim.Native.Nat.{ℕ, _+_, _≤_}
 use native.Mathlib.Omega.{arith}
-use mathlib.Core.Path.{_≡_, ap, _∙_}
+use mathlib.Core.Path.{_≡_, sym, ap, _∙_}
+use mathlib.Core.Bool.{Bool}
 use mathlib.Core.List.{List, map}
 use lib.ListN.{length, take}
 use Rattle.lists.specs.Lists.{filter}
 use Rattle.lists.specs.Sorting.{sortBy}
-use Rattle.lists.proofs.Tests.{length-filter}
-use Rattle.lists.proofs.Sorting.{length-sort}
+use Rattle.lists.proofs.Tests.{by-cond}
 use Rattle.rules.specs.declared.Enlistment.{Enlistment}
 use Rattle.rules.specs.declared.Signals.{Signals}
-use Rattle.rules.specs.declared.Table.{Table}
-use Rattle.rules.specs.declared.Transaction.{Transaction}
-use Rattle.rules.specs.Sizes.{heldMost, signalsMost}
-use Rattle.rules.specs.Table.{noEnlistment, transactionAt, idAt, held, isDurable, changeHeld, changeTransaction, useMore}
+use Rattle.rules.specs.Sizes.{signalsMost}
+use Rattle.rules.specs.TransactionState as transaction
+use Rattle.rules.specs.Identifiers.{Id}
+use Rattle.rules.specs.Table.{noEnlistment, idAt, held, isDurable}
+use Rattle.rules.specs.Sound.{isOpen, openCount}
 use Rattle.rules.specs.Signals.{byNumber, rowOf}
 use Rattle.rules.specs.Log.{Record, recordBytes, written}
-use Rattle.rules.specs.Events.{saying, append, entryOf, commitRecord, commitSignals, committing}
+use Rattle.rules.specs.Events.{saying, append, entryOf, commitRecord, commitSignals, committedOf, committing}
+use Rattle.passes.specs.Census.{moreOf}
+use Rattle.holdings.specs.declared.Holding.{Holding}
+use Rattle.holdings.specs.Holdings.{alone, Placed, withUsed, going}
+use Rattle.holdings.proofs.Laws.{alone-used}
+use Rattle.holdings.proofs.Alone.{alone-going, one-open}
 use Rattle.signals.specs.declared.Line.{Line}
 use Rattle.signals.specs.Lines.{lineOf}
 use Rattle.signals.proofs.Rows.{take-row}
 use Rattle.endings.specs.Gives.{Gives}
 
-line-take : {l : Line} (es : List Enlistment) → l ≡ lineOf es → length es ≤ signalsMost → take (l .count) (l .items) ≡ es
+-- it counts itself, if it is open
+module _ (h : Holding) {so : Bool} {n : ℕ} (test : so ≡ isOpen (h .transaction .state) (held (h .place) (alone h))) (more : n ≡ moreOf so 0) where
+  pub open-alone : Placed h → n ≡ openCount (alone h)
+  open-alone i = more ∙ (ap (λ b. moreOf b 0) test ∙ sym (one-open h i))
+
+  pub open-most : n ≤ 1
+  open-most = rw more (by-cond (λ m. m ≤ 1) so (omega arith) (omega arith))
+
+line-take : {l : Line} (es : List Enlistment) → l ≡ lineOf es → l .count ≤ signalsMost → take (l .count) (l .items) ≡ es
 unfolding lineOf
-line-take es e h = rw e (take-row noEnlistment signalsMost es h)
+line-take es e h = rw e (take-row noEnlistment signalsMost es (rw e at h))
 
-abbrev entriesOf : List Enlistment → List Enlistment
-entriesOf hs = sortBy byNumber (filter isDurable hs)
+module _ (h : Holding) {told : Holding} (so : told ≡ going transaction.committing committedOf h) where
+  told-alone : alone told ≡ committing (h .place) (alone h)
+  told-alone = ap alone so ∙ alone-going transaction.committing committedOf h
 
-entries-few : (hs : List Enlistment) → length (entriesOf hs) ≤ length hs
-entries-few hs = omega (arith, length-sort byNumber (filter isDurable hs), length-filter isDurable hs)
+  told-used : told .used ≡ committing (h .place) (alone h) .used
+  unfolding alone
+  told-used = ap (λ t. t .used) told-alone
 
-pub line-few : {l : Line} (hs : List Enlistment) → l ≡ lineOf (entriesOf hs) → length hs ≤ heldMost → l .count ≤ signalsMost
-unfolding lineOf
-line-few hs e h = omega (arith, ap (λ m. m .count) e, entries-few hs)
-
-pub committing-used : (p : ℕ) (tb : Table) {u : Table} → u ≡ committing p tb → u .used ≡ tb .used
-unfolding changeHeld changeTransaction
-committing-used p tb e = ap (λ t. t .used) e
-
-pub commit-done : (p : ℕ) (tb : Table) (log : List ℕ) {x : Transaction} {l : Line} {told u : Table} {s : Signals} {out : List ℕ} (n : ℕ)
-    → x ≡ transactionAt p tb → l ≡ lineOf (entriesOf (held p tb)) → length (held p tb) ≤ heldMost → told ≡ committing p tb
-    → out ≡ written (told .used) (recordBytes (Record.commit (x .id .0) (map entryOf (take (l .count) (l .items))))) log
-    → n ≡ length (recordBytes (Record.commit (x .id .0) (map entryOf (take (l .count) (l .items))))) → u ≡ useMore n told
-    → s ≡ rowOf (commitSignals (held p tb))
-    → Gives (saying (commitSignals (held p tb)) (append (commitRecord (idAt p tb) (held p tb)) (committing p tb) log)) (record { table = u; signals = s }) out
-unfolding append commitRecord
-commit-done p tb log n at line few so o size more t =
-    let k = line-take (entriesOf (held p tb)) line (omega (arith, entries-few (held p tb), few)) in
-    record { answer = rw (more, size, k, at, so, t); log = o ∙ rw (k, at, so) }
+  pub commit-done : (log : List ℕ) {t : Id} {l : Line} {u : Holding} {s : Signals} {out : List ℕ} (n : ℕ)
+      → t ≡ idAt (h .place) (alone h) → l ≡ lineOf (sortBy byNumber (filter isDurable (held (h .place) (alone h)))) → l .count ≤ signalsMost
+      → out ≡ written (told .used) (recordBytes (Record.commit t (map entryOf (take (l .count) (l .items))))) log
+      → n ≡ length (recordBytes (Record.commit t (map entryOf (take (l .count) (l .items))))) → u ≡ withUsed (told .used + n) told
+      → s ≡ rowOf (commitSignals (held (h .place) (alone h)))
+      → Gives (h .place) (saying (commitSignals (held (h .place) (alone h))) (append (commitRecord (idAt (h .place) (alone h)) (held (h .place) (alone h))) (committing (h .place) (alone h)) log)) (record { holding = u; signals = s }) out
+  unfolding append commitRecord
+  commit-done log n at line few o size more say =
+      let k = line-take (sortBy byNumber (filter isDurable (held (h .place) (alone h)))) line few in
+      record {
+        table = ap alone more ∙ (alone-used n told ∙ rw (size, k, at, told-alone));
+        place = ap (λ g. g .place) more ∙ ap (λ g. g .place) so;
+        signals = say;
+        log = o ∙ rw (k, at, told-used);
+      }

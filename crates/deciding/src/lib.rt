@@ -1,32 +1,35 @@
-// Commit, from its first phase to the decision: p is the transaction's place.
+// Commit, from its first phase to the decision.
 
 ghost use mathlib.Core.Path.{_≡_};
 ghost use mathlib.Core.Bool.{_&&_};
-ghost use Prim.Native.Nat.{_≤_};
+ghost use mathlib.Core.List.{List};
+ghost use Prim.Native.Nat.{ℕ};
 ghost use lib.Dec.{eqb};
-ghost use lib.ListN.{length};
-ghost use Rattle.rules.specs.Sizes.{heldMost};
+ghost use Rattle.rules.specs.TransactionState as transaction;
 ghost use Rattle.rules.specs.Table.{held, idAt, goTo, changeHeld, inState};
 ghost use Rattle.rules.specs.Signals.{toEach, rowOf};
-ghost use Rattle.rules.specs.Events.{saying, append, commitRecord, commitSignals, committing, lacksRoom, decideOf, startPhaseOne, commitOf};
-ghost use Rattle.endings.specs.Gives.{Gives, usedMost};
+ghost use Rattle.rules.specs.Events.{quietly, saying, append, commitRecord, commitSignals, committedOf, committing, lacksRoom, decideOf, startPhaseOne, commitOf};
+ghost use Rattle.holdings.specs.Holdings.{alone, Placed, going};
+ghost use Rattle.endings.specs.Gives.{Gives, Ready};
 use endings::Accepted;
+use holdings::Holding;
 use passes::Change;
 use rules::Name;
 use rules::Signals;
-use rules::Table;
 use rules::enlistment_state;
 use rules::sizes;
 use rules::transaction_state;
 use signals::Which;
 
-// For a commit record of n entries, and the forget records of this transaction and of the open ones.
-fn lacks_room(table: Table, n: u8) -> bool
-    ensures { λ r. ⌜ r ≡ lacksRoom n table ⌝ }
+// For a commit record of n entries, and the forget records of this transaction and of the open ones. Those of the others are off the capacity already.
+fn lacks_room(h: Holding, n: u8) -> bool
+    requires { ⌜ Placed h ⌝ }
+    ensures { λ r. ⌜ r ≡ lacksRoom n (alone h) ⌝ }
 {
-    let open = passes::open_count(table);
-    let used = table.used;
-    let capacity = table.capacity;
+    let so = holdings::is_open(h);
+    let open = passes::more(0, so);
+    let used = h.used;
+    let capacity = h.capacity;
     let needs = sizes::RECORD + sizes::ENTRY * (n as u32) + sizes::RECORD * (1 + (open as u32));
     if used <= capacity {
         return capacity - used < needs;
@@ -34,78 +37,77 @@ fn lacks_room(table: Table, n: u8) -> bool
     true
 }
 
-fn committing(table: Table, p: u8) -> Table
-    ensures { λ r. ⌜ r ≡ committing p table ⌝ }
+fn committing(h: Holding) -> Holding
+    ensures { λ r. ⌜ r ≡ going transaction.committing committedOf h ⌝ }
 {
-    let told = passes::change_held(table, p, Change::Committed);
-    places::go_to(told, p, transaction_state::COMMITTING)
+    holdings::change_and_go(h, Change::Committed, transaction_state::COMMITTING)
 }
 
-fn commit_signals(table: Table, p: u8) -> Signals
-    ensures { λ r. ⌜ r ≡ rowOf (commitSignals (held p table)) ⌝ }
+fn commit_signals(h: Holding) -> Signals
+    ensures { λ r. ⌜ r ≡ rowOf (commitSignals (held (h .place) (alone h))) ⌝ }
 {
-    signals::to_each_and_app(table, p, Which::Prepared, Name::Commit, Name::AppCommitted)
+    signals::to_each_and_app(h, Which::Prepared, Name::Commit, Name::AppCommitted)
 }
 
-fn commit_unlogged(table: Table, p: u8) -> Accepted
-    ensures { λ r. ⌜ r ≡ record { table = committing p table; signals = rowOf (commitSignals (held p table)) } ⌝ }
+fn commit_unlogged(h: Holding) -> Accepted
+    ensures { λ r. ⌜ ((log : List ℕ) → Gives (h .place) (saying (commitSignals (held (h .place) (alone h))) (quietly (committing (h .place) (alone h)) log)) r log) ⌝ }
 {
-    let signals = commit_signals(table, p);
-    let after = committing(table, p);
+    let signals = commit_signals(h);
+    let after = committing(h);
     Accepted {
-        table: after,
+        holding: after,
         signals: signals,
     }
 }
 
-fn commit_logged(table: Table, p: u8, log: &mut [u8]) -> Accepted
-    requires { ⌜ (table .used ≤ usedMost) × (length (held p table) ≤ heldMost) ⌝ }
-    ensures { λ r. ⌜ Gives (saying (commitSignals (held p table)) (append (commitRecord (idAt p table) (held p table)) (committing p table) (now (log .entry)))) r
-        (now (log .exit)) ⌝ }
+fn commit_logged(h: Holding, log: &mut [u8]) -> Accepted
+    requires { ⌜ Ready h ⌝ }
+    ensures { λ r. ⌜ Gives (h .place)
+        (saying (commitSignals (held (h .place) (alone h))) (append (commitRecord (idAt (h .place) (alone h)) (held (h .place) (alone h))) (committing (h .place) (alone h)) (now (log .entry))))
+        r (now (log .exit)) ⌝ }
 {
-    let signals = commit_signals(table, p);
-    let x = places::transaction_at(table, p);
+    let signals = commit_signals(h);
+    let x = h.transaction;
     let t = x.id;
     let id = t.0;
-    let entries = signals::line_up(table, p, Which::Durable);
-    let told = committing(table, p);
+    let entries = signals::line_up(h, Which::Durable);
+    let told = committing(h);
     let size = log::put_commit(log, told.used, id, entries);
-    let after = endings::use_more(told, size);
+    let after = holdings::use_more(told, size);
     Accepted {
-        table: after,
+        holding: after,
         signals: signals,
     }
 }
 
-pub fn decide(table: Table, p: u8, log: &mut [u8]) -> Accepted
-    requires { ⌜ (table .used ≤ usedMost) × (length (held p table) ≤ heldMost) ⌝ }
-    ensures { λ r. ⌜ Gives (decideOf p table (now (log .entry))) r (now (log .exit)) ⌝ }
+pub fn decide(h: Holding, log: &mut [u8]) -> Accepted
+    requires { ⌜ Ready h ⌝ }
+    ensures { λ r. ⌜ Gives (h .place) (decideOf (h .place) (alone h) (now (log .entry))) r (now (log .exit)) ⌝ }
 {
-    let c = passes::count_held(table, p);
+    let c = holdings::count(h);
     let nothing = c.held == 0;
     let unlogged = c.durable == 0;
     if nothing {
-        return endings::end_with(table, p, Name::AppCommitted, log);
+        return endings::end_with(h, Name::AppCommitted, log);
     }
     if unlogged {
-        return commit_unlogged(table, p);
+        return commit_unlogged(h);
     }
-    let lacks = lacks_room(table, c.durable);
+    let lacks = lacks_room(h, c.durable);
     if lacks {
-        return endings::abort(table, p, log);
+        return endings::abort(h, log);
     }
-    commit_logged(table, p, log)
+    commit_logged(h, log)
 }
 
 // Each that it holds is told the same and goes to the same state.
-fn all_go(table: Table, p: u8, name: Name, each: u8, state: u8) -> Accepted
-    ensures { λ r. ⌜ r ≡ record { table = goTo p state (changeHeld p (inState each) table); signals = rowOf (toEach name (held p table)) } ⌝ }
+fn all_go(h: Holding, name: Name, each: u8, state: u8) -> Accepted
+    ensures { λ r. ⌜ ((log : List ℕ) → Gives (h .place) (saying (toEach name (held (h .place) (alone h))) (quietly (goTo (h .place) state (changeHeld (h .place) (inState each) (alone h))) log)) r log) ⌝ }
 {
-    let signals = signals::to_each(table, p, Which::All, name);
-    let changed = passes::change_held(table, p, Change::Becomes(each));
-    let after = places::go_to(changed, p, state);
+    let signals = signals::to_each(h, Which::All, name);
+    let after = holdings::change_and_go(h, Change::Becomes(each), state);
     Accepted {
-        table: after,
+        holding: after,
         signals: signals,
     }
 }
@@ -117,48 +119,45 @@ fn is_single(held: u8, marked: u8) -> bool
     if one { marked == held } else { false }
 }
 
-pub fn start_phase_one(table: Table, p: u8, log: &mut [u8]) -> Accepted
-    requires { ⌜ table .used ≤ usedMost ⌝ }
-    ensures { λ r. ⌜ Gives (startPhaseOne p table (now (log .entry))) r (now (log .exit)) ⌝ }
+pub fn start_phase_one(h: Holding, log: &mut [u8]) -> Accepted
+    requires { ⌜ Ready h ⌝ }
+    ensures { λ r. ⌜ Gives (h .place) (startPhaseOne (h .place) (alone h) (now (log .entry))) r (now (log .exit)) ⌝ }
 {
-    let c = passes::count_held(table, p);
+    let c = holdings::count(h);
     let nothing = c.held == 0;
     let single = is_single(c.held, c.marked);
     if nothing {
-        return endings::end_with(table, p, Name::AppCommitted, log);
+        return endings::end_with(h, Name::AppCommitted, log);
     }
     if single {
         return all_go(
-            table,
-            p,
+            h,
             Name::Single,
             enlistment_state::ONE_PHASE,
             transaction_state::SINGLE_PHASE,
         );
     }
     all_go(
-        table,
-        p,
+        h,
         Name::Prepare,
         enlistment_state::PREPARING,
         transaction_state::PHASE_ONE,
     )
 }
 
-pub fn commit(table: Table, p: u8, log: &mut [u8]) -> Accepted
-    requires { ⌜ table .used ≤ usedMost ⌝ }
-    ensures { λ r. ⌜ Gives (commitOf p table (now (log .entry))) r (now (log .exit)) ⌝ }
+pub fn commit(h: Holding, log: &mut [u8]) -> Accepted
+    requires { ⌜ Ready h ⌝ }
+    ensures { λ r. ⌜ Gives (h .place) (commitOf (h .place) (alone h) (now (log .entry))) r (now (log .exit)) ⌝ }
 {
-    let c = passes::count_held(table, p);
+    let c = holdings::count(h);
     let waits = c.phase_zero != 0;
     if waits {
-        let signals = signals::to_each(table, p, Which::PhaseZero, Name::Zero);
-        let told = passes::change_held(table, p, Change::Zeroed);
-        let after = places::go_to(told, p, transaction_state::PHASE_ZERO);
+        let signals = signals::to_each(h, Which::PhaseZero, Name::Zero);
+        let after = holdings::change_and_go(h, Change::Zeroed, transaction_state::PHASE_ZERO);
         return Accepted {
-            table: after,
+            holding: after,
             signals: signals,
         };
     }
-    start_phase_one(table, p, log)
+    start_phase_one(h, log)
 }

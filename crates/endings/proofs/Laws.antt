@@ -5,17 +5,20 @@ use mathlib.Core.Bool.{Bool, true, false}
 use mathlib.Core.List.{List}
 use lib.ListN.{length}
 use Rattle.rules.specs.declared.Enlistment.{Enlistment}
+use Rattle.rules.specs.declared.Signal.{Signal}
+use Rattle.rules.specs.declared.Signals.{Signals}
 use Rattle.rules.specs.declared.Table.{Table}
 use Rattle.rules.specs.declared.Transaction.{Transaction}
 use Rattle.rules.specs.Table.{transactionAt, stateAt, held, freed, ended, emptied, changeHeld, goTo}
 use Rattle.rules.specs.Sound.{isOpen}
+use Rattle.rules.specs.Signals.{rowOf}
 use Rattle.rules.specs.Log.{Record, recordBytes, written}
-use Rattle.rules.specs.Events.{quietly, append, endOf, endIfDone}
+use Rattle.rules.specs.Events.{quietly, saying, append, endOf, endIfDone}
 use Rattle.holdings.specs.declared.Holding.{Holding}
 use Rattle.holdings.specs.Holdings.{alone, Placed, withHeld, withTransaction, withUsed, going}
 use Rattle.holdings.proofs.Laws.{alone-at, alone-used}
 use Rattle.holdings.proofs.Alone.{alone-emptied, alone-going}
-use Rattle.endings.specs.Gives.{Leaves, Ready}
+use Rattle.endings.specs.Gives.{Gives, Leaves, Ready}
 
 -- the two ways in which a transaction ends
 module _ (p : ℕ) (tb : Table) (log : List ℕ) {x : Transaction} (at : x ≡ transactionAt p tb) where
@@ -55,3 +58,8 @@ module _ (s : ℕ) (f : Enlistment → Enlistment) (h : Holding) {g : Holding} (
   pub going-leaves : (log : List ℕ) {out : List ℕ} {after : Holding} → Leaves (g .place) (endIfDone (g .place) (alone g) log) after out
       → Leaves (h .place) (endIfDone (h .place) (goTo (h .place) s (changeHeld (h .place) f (alone h))) log) after out
   going-leaves log l = rw (e, alone-going s f h) at l
+
+  -- it says this, and no more
+  pub going-gives : (ss : List Signal) {signals : Signals} → signals ≡ rowOf ss → (log : List ℕ)
+      → Gives (h .place) (saying ss (quietly (goTo (h .place) s (changeHeld (h .place) f (alone h))) log)) (record { holding = g; signals = signals }) log
+  going-gives ss so log = record { table = ap alone e ∙ alone-going s f h; place = ap (λ g. g .place) e; signals = so; log = refl }

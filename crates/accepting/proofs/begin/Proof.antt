@@ -15,4 +15,4 @@ begin-spec =
     (λ c κs. search needs)
     (λ c κs. search needs)
     (λ c κs. search needs)
-    (λ c. λ log. record { answer = rw (put-is, ← c .before .before .place-free .ensures, ← c .before .put-transaction .ensures) (c .quietly .ensures); log = refl }))
+    (λ c. λ log. (rw (put-is, ← c .before .before .place-free .ensures, ← c .before .put-transaction .ensures, ← c .to-none .ensures), refl)))

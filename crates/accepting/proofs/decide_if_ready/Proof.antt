@@ -1,5 +1,5 @@
 -- The test is that of the definition, by what is counted.
-use mathlib.Core.Path.{refl, sym, ap, _∙_}
+use mathlib.Core.Path.{sym, ap, _∙_}
 use mathlib.Core.Bool.{not}
 use lib.Dec.{eqb}
 use borrow.Author.Needs.{needs}
@@ -8,6 +8,7 @@ use Rattle.rules.specs.Table.{isIn}
 use Rattle.rules.specs.EnlistmentState.{preparing}
 use Rattle.rules.specs.Events.{follow}
 use Rattle.passes.specs.Census.{censusOf}
+use Rattle.accepting.proofs.Laws.{quiet-gives}
 use Rattle.accepting.proofs.decide_if_ready.Statement.{statement}
 use Rattle.accepting.proofs.decide_if_ready.Tie as tie
 
@@ -18,7 +19,7 @@ decide-if-ready-spec =
     (tie.spec
     (λ c κs. search needs)
     (λ c κs. search needs)
-    (λ c. rw (any-count (isIn preparing), sym (ap (λ m. not (eqb (m .preparing) 0)) (c .before .before .before .count-held .ensures)) ∙ c .before .if1 .taken) (record { answer = c .quietly .ensures; log = refl }))
+    (λ c. rw (any-count (isIn preparing), sym (ap (λ m. not (eqb (m .preparing) 0)) (c .before .before .before .count .ensures)) ∙ c .before .if1 .taken) (quiet-gives (c .before .before .before .before .before .args .h) (c .quietly .ensures) _))
     (λ c κs. search needs)
     (λ c. search needs)
-    (λ c. rw (any-count (isIn preparing), sym (ap (λ m. not (eqb (m .preparing) 0)) (c .before .before .before .before .before .before .count-held .ensures)) ∙ c .before .before .before .before .if1 .left) (c .before .before .decide .ensures)))
+    (λ c. rw (any-count (isIn preparing), sym (ap (λ m. not (eqb (m .preparing) 0)) (c .before .before .before .before .before .before .count .ensures)) ∙ c .before .before .before .before .if1 .left) (c .before .before .decide .ensures)))

@@ -1,7 +1,9 @@
 -- An ending sends no signal.
+use mathlib.Core.Path.{ap, _∙_}
 use borrow.Author.Needs.{needs}
 use Rattle.rules.specs.Events.{follow}
 use Rattle.rules.proofs.Count.{end-if-done-quiet}
+use Rattle.holdings.specs.Holdings.{alone}
 use Rattle.accepting.proofs.end_quietly.Statement.{statement}
 use Rattle.accepting.proofs.end_quietly.Tie as tie
 
@@ -13,4 +15,9 @@ end-quietly-spec =
     (λ c κs. search needs)
     (λ c κs. search needs)
     (λ c. search needs)
-    (λ c. record { answer = rw (end-if-done-quiet (c .before .before .before .before .before .before .args .p) (c .before .before .before .before .before .before .args .table) (c .before .before .before .before .before .before .args .log .now), ← c .before .before .before .end-if-done .ensures .table) (c .quietly .ensures); log = c .before .before .before .end-if-done .ensures .log }))
+    (λ c. record {
+      table = ap (λ a. alone (a .holding)) (c .quietly .ensures) ∙ c .before .before .before .end-if-done .ensures .table;
+      place = ap (λ a. a .holding .place) (c .quietly .ensures) ∙ c .before .before .before .end-if-done .ensures .place;
+      signals = rw (end-if-done-quiet (c .before .before .before .before .before .before .args .h .place) (alone (c .before .before .before .before .before .before .args .h)) (c .before .before .before .before .before .before .args .log .now)) (ap (λ a. a .signals) (c .quietly .ensures));
+      log = c .before .before .before .end-if-done .ensures .log;
+    }))

@@ -1,7 +1,7 @@
 -- Each case is that of the definition.
-use mathlib.Core.Path.{refl}
 use borrow.Author.Needs.{needs}
 use Rattle.rules.specs.Events.{follow}
+use Rattle.accepting.proofs.Laws.{quiet-gives}
 use Rattle.accepting.proofs.follow.Statement.{statement}
 use Rattle.accepting.proofs.follow.Tie as tie
 
@@ -22,7 +22,7 @@ follow-spec =
     (λ c κs. search needs)
     (λ c. search needs)
     (λ c κs. search needs)
-    (λ c. rw (c .before .enum-told .given .1) (record { answer = c .quietly .ensures; log = refl }))
+    (λ c. rw (c .before .enum-told .given .1) (quiet-gives (c .before .before .before .before .args .h) (c .quietly .ensures) _))
     (λ c. search needs)
     (λ c. rw (c .before .before .before .before .enum-told2 .given .1) (c .before .before .phase-one-if-ready .ensures))
     (λ c. search needs)

@@ -1,10 +1,7 @@
 -- Each case is that of the definition.
-use native.Mathlib.Omega.{arith}
-use mathlib.Core.Path.{refl}
 use borrow.Author.Needs.{needs}
 use Rattle.rules.specs.Events.{react}
-use Rattle.endings.proofs.Laws.{held-used}
-use Rattle.accepting.proofs.Laws.{held-fewer}
+use Rattle.accepting.proofs.Laws.{quiet-gives, changed-ready, changed-follows}
 use Rattle.accepting.proofs.react.Statement.{statement}
 use Rattle.accepting.proofs.react.Tie as tie
 
@@ -17,12 +14,12 @@ react-spec =
     (λ c κs. search needs)
     (λ c. search needs)
     (λ c κs. search needs)
-    (λ c κs. (omega (arith, held-used _ _ _ (c .before .change-held .ensures), c .before .before .before .before .before .before .pre .0), omega (arith, held-fewer _ _ _ (c .before .change-held .ensures), c .before .before .before .before .before .before .pre .1)))
+    (λ c κs. changed-ready _ (c .before .before .before .before .before .before .args .h) (c .before .change .ensures) (c .before .before .before .before .before .before .pre))
     (λ c. search needs)
     (λ c κs. search needs)
-    (λ c κs. (omega (arith, held-used _ _ _ (c .before .change-held2 .ensures), c .before .before .before .before .before .before .pre .0), omega (arith, held-fewer _ _ _ (c .before .change-held2 .ensures), c .before .before .before .before .before .before .pre .1)))
-    (λ c. rw (c .before .enum-told .given .1) (record { answer = c .quietly .ensures; log = refl }))
+    (λ c κs. changed-ready _ (c .before .before .before .before .before .before .args .h) (c .before .change2 .ensures) (c .before .before .before .before .before .before .pre))
+    (λ c. rw (c .before .enum-told .given .1) (quiet-gives (c .before .before .before .before .args .h) (c .quietly .ensures) _))
     (λ c. search needs)
-    (λ c. rw (c .before .before .before .before .before .before .r .given .1, ← c .before .before .before .before .change-held .ensures) (c .before .before .follow .ensures))
+    (λ c. rw (c .before .before .before .before .before .before .r .given .1) (changed-follows _ (c .before .before .before .before .before .before .before .before .before .args .h) (c .before .before .before .before .change .ensures) _ (c .before .before .before .before .before .before .before .before .before .args .log .now) (c .before .before .follow .ensures)))
     (λ c. search needs)
-    (λ c. rw (c .before .before .before .before .before .before .r2 .given .1, ← c .before .before .before .before .change-held2 .ensures) (c .before .before .follow2 .ensures)))
+    (λ c. rw (c .before .before .before .before .before .before .r2 .given .1) (changed-follows _ (c .before .before .before .before .before .before .before .before .before .args .h) (c .before .before .before .before .change2 .ensures) _ (c .before .before .before .before .before .before .before .before .before .args .log .now) (c .before .before .follow2 .ensures))))

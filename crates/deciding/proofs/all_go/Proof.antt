@@ -5,6 +5,8 @@ use borrow.Author.Needs.{needs}
 use Rattle.lists.proofs.Tests.{filter-all}
 use Rattle.rules.specs.Table.{held}
 use Rattle.rules.specs.Signals.{toEach, rowOf}
+use Rattle.holdings.specs.Holdings.{alone}
+use Rattle.endings.proofs.Laws.{going-gives}
 use Rattle.deciding.proofs.all_go.Statement.{statement}
 use Rattle.deciding.proofs.all_go.Tie as tie
 
@@ -14,5 +16,4 @@ all-go-spec =
     (tie.spec
     (λ c κs. search needs)
     (λ c κs. search needs)
-    (λ c κs. search needs)
-    (λ c. rw (← (c .before .before .to-each .ensures .0 ∙ ap (λ hs. rowOf (toEach (c .before .before .before .args .name) hs)) (filter-all (λ e. true) (held (c .before .before .before .args .p) (c .before .before .before .args .table)) (λ e m. refl))), ← c .before .change-held .ensures, ← c .go-to .ensures)))
+    (λ c. going-gives _ _ (c .before .before .args .h) (c .change-and-go .ensures) _ (c .before .to-each .ensures .0 ∙ ap (λ hs. rowOf (toEach (c .before .before .args .name) hs)) (filter-all (λ e. true) (held (c .before .before .args .h .place) (alone (c .before .before .args .h))) (λ e m. refl)))))

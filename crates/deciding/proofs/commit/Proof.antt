@@ -1,5 +1,5 @@
 -- The test is that of the definition, by what is counted.
-use mathlib.Core.Path.{refl, sym, ap, _∙_}
+use mathlib.Core.Path.{sym, ap, _∙_}
 use mathlib.Core.Bool.{not}
 use lib.Dec.{eqb}
 use borrow.Author.Needs.{needs}
@@ -7,6 +7,7 @@ use Rattle.lists.proofs.Loops.{any-count}
 use Rattle.rules.specs.Table.{isPhaseZero}
 use Rattle.rules.specs.Events.{commitOf}
 use Rattle.passes.specs.Census.{censusOf}
+use Rattle.endings.proofs.Laws.{going-gives}
 use Rattle.deciding.proofs.commit.Statement.{statement}
 use Rattle.deciding.proofs.commit.Tie as tie
 
@@ -18,8 +19,7 @@ commit-spec =
     (λ c κs. search needs)
     (λ c κs. search needs)
     (λ c κs. search needs)
-    (λ c κs. search needs)
-    (λ c. rw (any-count isPhaseZero, sym (ap (λ m. not (eqb (m .«phase_zero») 0)) (c .before .before .before .before .before .count-held .ensures)) ∙ c .before .before .before .if1 .taken) (record { answer = rw (← c .before .before .to-each .ensures .0, ← c .before .change-held .ensures, ← c .go-to .ensures); log = refl }))
+    (λ c. rw (any-count isPhaseZero, sym (ap (λ m. not (eqb (m .«phase_zero») 0)) (c .before .before .before .before .count .ensures)) ∙ c .before .before .if1 .taken) (going-gives _ _ (c .before .before .before .before .before .before .args .h) (c .change-and-go .ensures) _ (c .before .to-each .ensures .0) _))
     (λ c κs. search needs)
     (λ c. search needs)
-    (λ c. rw (any-count isPhaseZero, sym (ap (λ m. not (eqb (m .«phase_zero») 0)) (c .before .before .before .before .before .before .count-held .ensures)) ∙ c .before .before .before .before .if1 .left) (c .before .before .start-phase-one .ensures)))
+    (λ c. rw (any-count isPhaseZero, sym (ap (λ m. not (eqb (m .«phase_zero») 0)) (c .before .before .before .before .before .before .count .ensures)) ∙ c .before .before .before .before .if1 .left) (c .before .before .start-phase-one .ensures)))

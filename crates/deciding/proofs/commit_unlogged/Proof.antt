@@ -1,5 +1,6 @@
 -- Signals and table are those of the definition.
 use borrow.Author.Needs.{needs}
+use Rattle.endings.proofs.Laws.{going-gives}
 use Rattle.deciding.proofs.commit_unlogged.Statement.{statement}
 use Rattle.deciding.proofs.commit_unlogged.Tie as tie
 
@@ -9,4 +10,4 @@ commit-unlogged-spec =
     (tie.spec
     (λ c κs. search needs)
     (λ c κs. search needs)
-    (λ c. rw (← c .before .commit-signals .ensures, ← c .committing .ensures)))
+    (λ c. going-gives _ _ (c .before .before .args .h) (c .committing .ensures) _ (c .before .commit-signals .ensures)))

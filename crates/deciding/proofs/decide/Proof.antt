@@ -1,5 +1,5 @@
 -- The tests are those of the definition, by what is counted.
-use mathlib.Core.Path.{refl, sym, ap, _∙_}
+use mathlib.Core.Path.{sym, ap, _∙_}
 use lib.Dec.{eqb}
 use borrow.Author.Needs.{needs}
 use Rattle.lists.proofs.Loops.{any-count}
@@ -7,6 +7,7 @@ use Rattle.lists.proofs.Tests.{count-filter}
 use Rattle.rules.specs.Table.{held, isDurable}
 use Rattle.rules.specs.Events.{lacksRoom, endCommitted, decideOf}
 use Rattle.passes.specs.Census.{censusOf}
+use Rattle.holdings.specs.Holdings.{alone}
 use Rattle.deciding.proofs.decide.Statement.{statement}
 use Rattle.deciding.proofs.decide.Tie as tie
 
@@ -18,13 +19,13 @@ decide-spec =
     (λ c κs. search needs)
     (λ c κs. search needs)
     (λ c. search needs)
-    (λ c. rw (sym (ap (λ m. eqb (m .held) 0) (c .before .before .before .before .before .before .before .count-held .ensures)) ∙ c .before .before .before .before .if1 .taken) (c .before .before .end-with .ensures))
+    (λ c. rw (sym (ap (λ m. eqb (m .held) 0) (c .before .before .before .before .before .before .before .count .ensures)) ∙ c .before .before .before .before .if1 .taken) (c .before .before .end-with .ensures))
     (λ c κs. search needs)
-    (λ c. rw (sym (ap (λ m. eqb (m .held) 0) (c .before .before .before .before .before .count-held .ensures)) ∙ c .before .before .if1 .left, any-count isDurable, sym (ap (λ m. eqb (m .durable) 0) (c .before .before .before .before .before .count-held .ensures)) ∙ c .before .if2 .taken) (record { answer = c .commit-unlogged .ensures; log = refl }))
+    (λ c. rw (sym (ap (λ m. eqb (m .held) 0) (c .before .before .before .before .before .count .ensures)) ∙ c .before .before .if1 .left, any-count isDurable, sym (ap (λ m. eqb (m .durable) 0) (c .before .before .before .before .before .count .ensures)) ∙ c .before .if2 .taken) (c .commit-unlogged .ensures _))
     (λ c κs. search needs)
-    (λ c κs. search needs)
-    (λ c. search needs)
-    (λ c. rw (sym (ap (λ m. eqb (m .held) 0) (c .before .before .before .before .before .before .before .before .before .before .count-held .ensures)) ∙ c .before .before .before .before .before .before .before .if1 .left, any-count isDurable, sym (ap (λ m. eqb (m .durable) 0) (c .before .before .before .before .before .before .before .before .before .before .count-held .ensures)) ∙ c .before .before .before .before .before .before .if2 .left, ← count-filter isDurable (held (c .before .before .before .before .before .before .before .before .before .before .before .before .args .p) (c .before .before .before .before .before .before .before .before .before .before .before .before .args .table)), sym (ap (λ m. lacksRoom (m .durable) (c .before .before .before .before .before .before .before .before .before .before .before .before .args .table)) (c .before .before .before .before .before .before .before .before .before .before .count-held .ensures)) ∙ (sym (c .before .before .before .before .before .lacks-room .ensures) ∙ c .before .before .before .before .if3 .taken)) (c .before .before .abort .ensures))
     (λ c κs. search needs)
     (λ c. search needs)
-    (λ c. rw (sym (ap (λ m. eqb (m .held) 0) (c .before .before .before .before .before .before .before .before .before .before .count-held .ensures)) ∙ c .before .before .before .before .before .before .before .if1 .left, any-count isDurable, sym (ap (λ m. eqb (m .durable) 0) (c .before .before .before .before .before .before .before .before .before .before .count-held .ensures)) ∙ c .before .before .before .before .before .before .if2 .left, ← count-filter isDurable (held (c .before .before .before .before .before .before .before .before .before .before .before .before .args .p) (c .before .before .before .before .before .before .before .before .before .before .before .before .args .table)), sym (ap (λ m. lacksRoom (m .durable) (c .before .before .before .before .before .before .before .before .before .before .before .before .args .table)) (c .before .before .before .before .before .before .before .before .before .before .count-held .ensures)) ∙ (sym (c .before .before .before .before .before .lacks-room .ensures) ∙ c .before .before .before .before .if3 .left)) (c .before .before .commit-logged .ensures)))
+    (λ c. rw (sym (ap (λ m. eqb (m .held) 0) (c .before .before .before .before .before .before .before .before .before .before .count .ensures)) ∙ c .before .before .before .before .before .before .before .if1 .left, any-count isDurable, sym (ap (λ m. eqb (m .durable) 0) (c .before .before .before .before .before .before .before .before .before .before .count .ensures)) ∙ c .before .before .before .before .before .before .if2 .left, ← count-filter isDurable (held (c .before .before .before .before .before .before .before .before .before .before .before .before .args .h .place) (alone (c .before .before .before .before .before .before .before .before .before .before .before .before .args .h))), sym (ap (λ m. lacksRoom (m .durable) (alone (c .before .before .before .before .before .before .before .before .before .before .before .before .args .h))) (c .before .before .before .before .before .before .before .before .before .before .count .ensures)) ∙ (sym (c .before .before .before .before .before .lacks-room .ensures) ∙ c .before .before .before .before .if3 .taken)) (c .before .before .abort .ensures))
+    (λ c κs. search needs)
+    (λ c. search needs)
+    (λ c. rw (sym (ap (λ m. eqb (m .held) 0) (c .before .before .before .before .before .before .before .before .before .before .count .ensures)) ∙ c .before .before .before .before .before .before .before .if1 .left, any-count isDurable, sym (ap (λ m. eqb (m .durable) 0) (c .before .before .before .before .before .before .before .before .before .before .count .ensures)) ∙ c .before .before .before .before .before .before .if2 .left, ← count-filter isDurable (held (c .before .before .before .before .before .before .before .before .before .before .before .before .args .h .place) (alone (c .before .before .before .before .before .before .before .before .before .before .before .before .args .h))), sym (ap (λ m. lacksRoom (m .durable) (alone (c .before .before .before .before .before .before .before .before .before .before .before .before .args .h))) (c .before .before .before .before .before .before .before .before .before .before .count .ensures)) ∙ (sym (c .before .before .before .before .before .lacks-room .ensures) ∙ c .before .before .before .before .if3 .left)) (c .before .before .commit-logged .ensures)))

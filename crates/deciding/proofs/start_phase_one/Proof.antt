@@ -1,5 +1,5 @@
 -- The tests are those of the definition, by what is counted.
-use mathlib.Core.Path.{refl, sym, ap, _∙_}
+use mathlib.Core.Path.{sym, ap, _∙_}
 use mathlib.Core.Bool.{_&&_}
 use lib.Dec.{eqb}
 use borrow.Author.Needs.{needs}
@@ -19,8 +19,8 @@ start-phase-one-spec =
     (λ c κs. search needs)
     (λ c κs. search needs)
     (λ c. search needs)
-    (λ c. rw (sym (ap (λ m. eqb (m .held) 0) (c .before .before .before .before .before .before .before .count-held .ensures)) ∙ c .before .before .before .before .if1 .taken) (c .before .before .end-with .ensures))
+    (λ c. rw (sym (ap (λ m. eqb (m .held) 0) (c .before .before .before .before .before .before .before .count .ensures)) ∙ c .before .before .before .before .if1 .taken) (c .before .before .end-with .ensures))
     (λ c κs. search needs)
-    (λ c. rw (sym (ap (λ m. eqb (m .held) 0) (c .before .before .before .before .before .count-held .ensures)) ∙ c .before .before .if1 .left, all-count isMarked, sym (ap (λ m. eqb (m .held) 1 && eqb (m .marked) (m .held)) (c .before .before .before .before .before .count-held .ensures)) ∙ (sym (c .before .before .before .is-single .ensures) ∙ c .before .if2 .taken)) (record { answer = c .all-go .ensures; log = refl }))
+    (λ c. rw (sym (ap (λ m. eqb (m .held) 0) (c .before .before .before .before .before .count .ensures)) ∙ c .before .before .if1 .left, all-count isMarked, sym (ap (λ m. eqb (m .held) 1 && eqb (m .marked) (m .held)) (c .before .before .before .before .before .count .ensures)) ∙ (sym (c .before .before .before .is-single .ensures) ∙ c .before .if2 .taken)) (c .all-go .ensures _))
     (λ c κs. search needs)
-    (λ c. rw (sym (ap (λ m. eqb (m .held) 0) (c .before .before .before .before .before .count-held .ensures)) ∙ c .before .before .if1 .left, all-count isMarked, sym (ap (λ m. eqb (m .held) 1 && eqb (m .marked) (m .held)) (c .before .before .before .before .before .count-held .ensures)) ∙ (sym (c .before .before .before .is-single .ensures) ∙ c .before .if2 .left)) (record { answer = c .all-go2 .ensures; log = refl })))
+    (λ c. rw (sym (ap (λ m. eqb (m .held) 0) (c .before .before .before .before .before .count .ensures)) ∙ c .before .before .if1 .left, all-count isMarked, sym (ap (λ m. eqb (m .held) 1 && eqb (m .marked) (m .held)) (c .before .before .before .before .before .count .ensures)) ∙ (sym (c .before .before .before .is-single .ensures) ∙ c .before .if2 .left)) (c .all-go2 .ensures _)))
