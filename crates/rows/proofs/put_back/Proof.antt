@@ -9,4 +9,4 @@ put-back-spec =
     (tie.spec
     (λ c κs. search needs)
     (λ c κs. search needs)
-    (λ c. (c .put-transaction .ensures .0, c .before .before .put-rows .ensures .0, c .put-transaction .ensures .1, c .before .before .put-rows .ensures .1)))
+    (λ c. (c .put-transaction .ensures .0, c .before .before .before .put-rows .ensures .0, c .put-transaction .ensures .1, c .before .before .before .put-rows .ensures .1)))
