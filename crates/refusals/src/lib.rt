@@ -114,7 +114,7 @@ pub fn enlist(
     already: bool,
     full: bool,
 ) -> u8
-    ensures { λ r. ⌜ ((tb : Table) (k : ℕ) → named ≡ placeNamed id tb → state ≡ stateAt named tb → already ≡ heldAlready tb named rm n k → full ≡ fullFor tb named → r ≡ firstOf (enlistChecks tb id rm n k)) ⌝ }
+    ensures { λ r. ⌜ ((tb : Table) (k : ℕ) → named ≡ placeNamed id tb → state ≡ stateAt named tb → (eqb n 0 ≡ false → already ≡ heldAlready tb named rm n k) → full ≡ fullFor tb named → r ≡ firstOf (enlistChecks tb id rm n k)) ⌝ }
 {
     let either = is_either_zero(id, rm);
     let zero = or(either, n == 0);
