@@ -1,13 +1,14 @@
-// What an event that is not refused does: Begin, Enlist, the events about one enlistment, and Ask.
+// What an event that is not refused does: the new enlistment of Enlist, the events about one enlistment, and Ask.
 
 ghost use mathlib.Core.Path.{_≡_};
-ghost use mathlib.Core.List.{List};
+ghost use mathlib.Core.Bool.{cond};
+ghost use mathlib.Core.List.{List, [], _∷_};
 ghost use Prim.Native.Nat.{ℕ};
-ghost use Rattle.lists.specs.Places.{putLowest};
 ghost use Rattle.rules.specs.declared.FollowUp.the-variants as then;
-ghost use Rattle.rules.specs.Table.{transactionAt, isVacant, withEnlistments};
-ghost use Rattle.rules.specs.Events.{zeroAtOnce, beginOf, enlistOf, reactionOf, follow, react, askOf};
-ghost use Rattle.rules.specs.Step.{doneStep, answerOf};
+ghost use Rattle.rules.specs.declared.Name.the-variants as name;
+ghost use Rattle.rules.specs.Table.{transactionAt};
+ghost use Rattle.rules.specs.Signals.{signal, rowOf};
+ghost use Rattle.rules.specs.Events.{zeroAtOnce, newEnlistment, reactionOf, follow, react, askOf};
 ghost use Rattle.holdings.specs.Holdings.{alone};
 ghost use Rattle.endings.specs.Gives.{Gives, Ready};
 use endings::Accepted;
@@ -21,31 +22,10 @@ use rules::Mark;
 use rules::Name;
 use rules::Reaction;
 use rules::RmId;
-use rules::Stepped;
-use rules::Table;
-use rules::Transaction;
-use rules::TxId;
+use rules::Signals;
 use rules::enlistment_state;
 use rules::kinds;
-use rules::refusal;
 use rules::transaction_state;
-
-pub fn begin(table: Table, id: [u8; 16]) -> Stepped
-    ensures { λ r. ⌜ ((log : List ℕ) → (r ≡ answerOf (doneStep (beginOf id table log))) × (log ≡ beginOf id table log .log)) ⌝ }
-{
-    let x = Transaction {
-        id: TxId(id),
-        state: transaction_state::ACTIVE,
-    };
-    let p = places::place_free(table);
-    let after = places::put_transaction(table, p, x);
-    let signals = signals::to_none();
-    Stepped {
-        refusal: refusal::ACCEPTED,
-        table: after,
-        signals: signals,
-    }
-}
 
 fn is_zero_at_once(kind: Kind, state: u8) -> bool
     ensures { λ r. ⌜ r ≡ zeroAtOnce kind state ⌝ }
@@ -59,19 +39,16 @@ fn is_zero_at_once(kind: Kind, state: u8) -> bool
     }
 }
 
-fn put_new(table: Table, e: Enlistment) -> Table
-    ensures { λ r. ⌜ r ≡ withEnlistments (putLowest isVacant e (table .enlistments)) table ⌝ }
-{
-    let p = places::place_vacant(table);
-    places::put_enlistment(table, p, e)
+pub struct Enlisted {
+    pub enlistment: Enlistment,
+    pub signals: Signals,
 }
 
-// Of the transaction at place p.
-pub fn enlist(table: Table, p: u8, n: u32, rm: [u8; 16], kind: Kind, mark: Mark) -> Stepped
-    ensures { λ r. ⌜ ((log : List ℕ) → (r ≡ answerOf (doneStep (enlistOf p n rm kind mark table log))) × (log ≡ enlistOf p n rm kind mark table log .log)) ⌝ }
+// The new enlistment of the transaction at place p, which is in this state, and what it is told.
+pub fn entry(p: u8, state: u8, n: u32, rm: [u8; 16], kind: Kind, mark: Mark) -> Enlisted
+    ensures { λ r. ⌜ (r .enlistment ≡ newEnlistment p state n rm kind mark) × (r .signals ≡ rowOf (cond (zeroAtOnce kind state) (signal name.Zero n ∷ []) [])) ⌝ }
 {
-    let x = places::transaction_at(table, p);
-    let at_once = is_zero_at_once(kind, x.state);
+    let at_once = is_zero_at_once(kind, state);
     let k = reactions::kind_of(kind);
     let m = reactions::mark_of(kind, mark);
     if at_once {
@@ -83,11 +60,9 @@ pub fn enlist(table: Table, p: u8, n: u32, rm: [u8; 16], kind: Kind, mark: Mark)
             mark: m,
             state: enlistment_state::ZERO,
         };
-        let after = put_new(table, e);
         let signals = signals::to_one(Name::Zero, n);
-        return Stepped {
-            refusal: refusal::ACCEPTED,
-            table: after,
+        return Enlisted {
+            enlistment: e,
             signals: signals,
         };
     }
@@ -99,11 +74,9 @@ pub fn enlist(table: Table, p: u8, n: u32, rm: [u8; 16], kind: Kind, mark: Mark)
         mark: m,
         state: enlistment_state::ACTIVE,
     };
-    let after = put_new(table, e);
     let signals = signals::to_none();
-    Stepped {
-        refusal: refusal::ACCEPTED,
-        table: after,
+    Enlisted {
+        enlistment: e,
         signals: signals,
     }
 }
