@@ -7,7 +7,7 @@ ghost use Prim.Native.Nat.{ℕ, _≤_};
 ghost use lib.ListN.{length, take};
 ghost use Rattle.lists.specs.Lists.{any, filter, firstOr, count};
 ghost use Rattle.lists.specs.Places.{placeOf, at, changeAt};
-ghost use Rattle.rules.specs.Table.{noTransaction, noEnlistment, isFree, isNamed, isVacant, isNumbered, heldBy, isDurable};
+ghost use Rattle.rules.specs.Table.{noTransaction, noEnlistment, isFree, isNamed, isVacant, isNumbered, heldBy, isDurable, isDurableOf};
 ghost use Rattle.rules.specs.Sound.{isOpen, openCount};
 ghost use Rattle.rows.specs.Memory.{transactionIn, numberIn, enlistmentIn, tableIn};
 ghost use Rattle.holdings.specs.Within.{taken, refill};
@@ -414,6 +414,52 @@ pub fn open_count(heads: &[[u8; 17]; 32], rows: &[[u8; 24]; 128]) -> u8
         n = passes::more(n, so);
     }
     n
+}
+
+// ---- What a transaction holds.
+
+pub fn count_held(rows: &[[u8; 24]; 128], p: u8) -> u8
+    requires { ⌜ length (now rows) ≡ 128 ⌝ }
+    ensures { λ r. ⌜ (r ≡ length (filter (heldBy p) (map enlistmentIn (now (rows .entry))))) × (r ≤ 128) ⌝ }
+{
+    let mut n: u8 = 0;
+    let mut i: usize = 128;
+    while 0 < i {
+        i -= 1;
+        let row = rows[i];
+        let mine = row[20] == p;
+        n = passes::more(n, mine);
+    }
+    n
+}
+
+// The identifiers are compared only where the cheaper tests pass.
+fn is_durable_held(row: [u8; 24], p: u8, rm: [u8; 16]) -> bool
+    ensures { λ r. ⌜ r ≡ (heldBy p (enlistmentIn row) && isDurableOf rm (enlistmentIn row)) ⌝ }
+{
+    let durable = is_durable_of(row, p);
+    if durable {
+        let own = identifier_in(&row);
+        return identifiers::same(own, rm);
+    }
+    false
+}
+
+// Whether the transaction at place p holds a durable enlistment of this RM.
+pub fn has_durable_of(rows: &[[u8; 24]; 128], p: u8, rm: [u8; 16]) -> bool
+    requires { ⌜ length (now rows) ≡ 128 ⌝ }
+    ensures { λ r. ⌜ r ≡ any (isDurableOf rm) (filter (heldBy p) (map enlistmentIn (now (rows .entry)))) ⌝ }
+{
+    let mut i: usize = 0;
+    while i < 128 {
+        let row = rows[i];
+        let hit = is_durable_held(row, p, rm);
+        i += 1;
+        if hit {
+            return true;
+        }
+    }
+    false
 }
 
 // ---- A transaction with what it holds.
