@@ -31,9 +31,6 @@ use Rattle.step.specs.declared.Answer.{Answer}
 use Rattle.step.specs.StepIn.{IsStepIn, Does, PutsBack}
 
 module _ (heads rows : List (List ℕ)) (capacity used : ℕ) (cs : List Check) (o : Outcome) (log : List ℕ) where
-  tb : Table
-  tb = tableIn heads rows capacity used
-
   pub silent-does : {r : Answer} (why : ℕ) → length heads ≡ 32 → length rows ≡ 128 → why ≡ firstOf cs → eqb why refusal.accepted ≡ false → r ≡ record { signals = rowOf []; used = used; refusal = why }
       → Does cs o (tableIn heads rows capacity used) log r heads rows log
   silent-does {r} why lh lr q z a = λ e c d.
@@ -68,10 +65,11 @@ put-within : (heads rows : List (List ℕ)) (capacity used p : ℕ) (d : Accepte
     → PutsBack heads rows d r heads′ rows′ → tableIn heads′ rows′ capacity (d .holding .used) ≡ within (tableIn heads rows capacity used) p (alone (d .holding))
 unfolding alone
 put-within heads rows capacity used p d r heads′ rows′ low high q b =
-    let x : transactionAt p (alone (d .holding)) ≡ d .holding .transaction = rw q at (alone-at (d .holding) (rw q low, rw q high)) in
-    λ i. record {
-      transactions = (b .transactions ∙ ap (λ k. changeAt k (λ y. d .holding .transaction) (map transactionIn heads)) q ∙ ap (λ z. changeAt p (λ y. z) (map transactionIn heads)) (sym x)) i;
-      enlistments = (b .enlistments ∙ ap (λ k. refill (heldBy k) (d .holding .enlistments) (map enlistmentIn rows)) q) i;
+    let i : Placed (d .holding) = (omega (arith, low, q), omega (arith, high, q)) in
+    let x : transactionAt p (alone (d .holding)) ≡ d .holding .transaction = ap (λ k. transactionAt k (alone (d .holding))) (sym q) ∙ alone-at (d .holding) i in
+    λ j. record {
+      transactions = (b .transactions ∙ ap (λ k. changeAt k (λ y. d .holding .transaction) (map transactionIn heads)) q ∙ ap (λ z. changeAt p (λ y. z) (map transactionIn heads)) (sym x)) j;
+      enlistments = (b .enlistments ∙ ap (λ k. refill (heldBy k) (d .holding .enlistments) (map enlistmentIn rows)) q) j;
       capacity = capacity;
       used = d .holding .used;
     }

@@ -70,7 +70,7 @@ fn begin(
     id: [u8; 16],
 ) -> Answer
     requires { ⌜ Fine (now heads) (now rows) capacity used ⌝ }
-    ensures { λ r. ⌜ ((log : List ℕ) → let tb = tableIn (now (heads .entry)) (now (rows .entry)) capacity used in Does (beginChecks tb id) (beginOf id tb log) tb log r (now (heads .exit)) (now (rows .entry)) log) ⌝ }
+    ensures { λ r. ⌜ ((log : List ℕ) → (let tb = tableIn (now (heads .entry)) (now (rows .entry)) capacity used in Does (beginChecks tb id) (beginOf id tb log) tb log r (now (heads .exit)) (now (rows .entry)) log)) ⌝ }
 {
     let named = rows::place_named(heads, id);
     let free = rows::place_free(heads);
@@ -118,7 +118,7 @@ fn enlist(
     mark: Mark,
 ) -> Answer
     requires { ⌜ Fine (now heads) (now rows) capacity used ⌝ }
-    ensures { λ r. ⌜ ((log : List ℕ) → let tb = tableIn (now (heads .entry)) (now (rows .entry)) capacity used in Does (enlistChecks tb id rm n (kindOf kind)) (enlistOf (placeNamed id tb) n rm kind mark tb log) tb log r (now (heads .entry)) (now (rows .exit)) log) ⌝ }
+    ensures { λ r. ⌜ ((log : List ℕ) → (let tb = tableIn (now (heads .entry)) (now (rows .entry)) capacity used in Does (enlistChecks tb id rm n (kindOf kind)) (enlistOf (placeNamed id tb) n rm kind mark tb log) tb log r (now (heads .entry)) (now (rows .exit)) log)) ⌝ }
 {
     let named = rows::place_named(heads, id);
     let x = rows::transaction_at(heads, named);
@@ -167,7 +167,7 @@ fn commit(
     log: &mut [u8],
 ) -> Answer
     requires { ⌜ Fine (now heads) (now rows) capacity used × (length (now log) ≡ capacity) ⌝ }
-    ensures { λ r. ⌜ let tb = tableIn (now (heads .entry)) (now (rows .entry)) capacity used in Does (commitChecks tb id) (commitOf (placeNamed id tb) tb (now (log .entry))) tb (now (log .entry)) r (now (heads .exit)) (now (rows .exit)) (now (log .exit)) ⌝ }
+    ensures { λ r. ⌜ (let tb = tableIn (now (heads .entry)) (now (rows .entry)) capacity used in Does (commitChecks tb id) (commitOf (placeNamed id tb) tb (now (log .entry))) tb (now (log .entry)) r (now (heads .exit)) (now (rows .exit)) (now (log .exit))) ⌝ }
 {
     let named = rows::place_named(heads, id);
     let x = rows::transaction_at(heads, named);
@@ -190,7 +190,7 @@ fn rollback(
     log: &mut [u8],
 ) -> Answer
     requires { ⌜ Fine (now heads) (now rows) capacity used × (length (now log) ≡ capacity) ⌝ }
-    ensures { λ r. ⌜ let tb = tableIn (now (heads .entry)) (now (rows .entry)) capacity used in Does (rollbackChecks tb id) (abortOf (placeNamed id tb) tb (now (log .entry))) tb (now (log .entry)) r (now (heads .exit)) (now (rows .exit)) (now (log .exit)) ⌝ }
+    ensures { λ r. ⌜ (let tb = tableIn (now (heads .entry)) (now (rows .entry)) capacity used in Does (rollbackChecks tb id) (abortOf (placeNamed id tb) tb (now (log .entry))) tb (now (log .entry)) r (now (heads .exit)) (now (rows .exit)) (now (log .exit))) ⌝ }
 {
     let named = rows::place_named(heads, id);
     let x = rows::transaction_at(heads, named);
