@@ -2,13 +2,14 @@
 -- and change nothing else. So, where a table t shows of p all that the table w t shows, and a change of p passes through w, the outcome on w t
 -- is the outcome on t, put through w.
 use Prim.Native.Nat.{ℕ}
-use mathlib.Core.Path.{_≡_, refl, sym, _∙_, ap}
+use mathlib.Core.Path.{_≡_, refl, ap}
+use mathlib.Core.Logic.{_⊎_, inl, inr}
 use mathlib.Core.Bool.{Bool, true, false, cond, _&&_}
 use mathlib.Core.List.{List}
 use lib.Dec.{eqb}
 use lib.ListN.{length}
 use Rattle.lists.specs.Lists.{all, any, none, filter}
-use Rattle.lists.proofs.Tests.{by-test}
+use Rattle.lists.proofs.Tests.{by-cond}
 use Rattle.rules.specs.declared.Transaction.{Transaction}
 use Rattle.rules.specs.declared.Enlistment.{Enlistment}
 use Rattle.rules.specs.declared.Table.{Table}
@@ -21,8 +22,9 @@ use Rattle.rules.specs.TransactionState as transaction
 use Rattle.rules.specs.EnlistmentState as enlistment
 use Rattle.rules.specs.Identifiers.{Id}
 use Rattle.rules.specs.Log.{Record, recordBytes, written}
-use Rattle.rules.specs.Table.{transactionAt, stateAt, idAt, held, isPhaseZero, isDurable, isMarked, isIn, isDone, inState, freed, ended, inTransactionState, onNumber, changeHeld, changeNumber, changeTransaction, goTo, emptied, useMore}
+use Rattle.rules.specs.Table.{transactionAt, stateAt, idAt, held, isNumbered, isPhaseZero, isDurable, isMarked, isIn, isDone, inState, freed, ended, inTransactionState, onNumber, changeHeld, changeNumber, changeTransaction, goTo, emptied, useMore}
 use Rattle.rules.specs.Sound.{isOpen}
+use Rattle.rules.proofs.Frames.{Keeps}
 use Rattle.rules.specs.Events.{Outcome, quietly, saying, append, endOf, endIfDone, abortedOf, abortOf, lacksRoom, committing, committedOf, endCommitted, decideOf, startPhaseOne, zeroedOf, commitOf, follow, react, isOver, toldAgain, askOf}
 
 -- w puts what stands at place p of a table into another, if it fits
@@ -47,19 +49,12 @@ choose w false e e′ = e′
 said : (w : Table → Table) (ss : List Signal) {o q : Outcome} → q ≡ through w o → saying ss q ≡ through w (saying ss o)
 said w ss e = ap (λ x. saying ss x) e
 
--- a decision may be due next
-abbrev pub isDecide : FollowUp → Bool
-isDecide then.Nothing = false
-isDecide then.StartPhaseOne = false
-isDecide then.Decide = true
-isDecide then.End = false
-isDecide then.Abort = false
-isDecide (then.EndWith a) = false
+-- a place is freed, or its enlistment stays with its transaction
+keeps-freed : (n : ℕ) → Keeps (onNumber n freed)
+keeps-freed n e = by-cond (λ x. (x .holder ≡ e .holder) ⊎ (x .holder ≡ 0)) (isNumbered n e) (inr refl) (inl refl)
 
-abbrev pub decides : Reaction → Bool
-decides reaction.Refused = false
-decides (reaction.Freed f) = isDecide f
-decides (reaction.Becomes s f) = isDecide f
+keeps-state : (n s : ℕ) → Keeps (onNumber n (inState s))
+keeps-state n s e = by-cond (λ x. (x .holder ≡ e .holder) ⊎ (x .holder ≡ 0)) (isNumbered n e) (inl refl) (inl refl)
 
 module _ {p : ℕ} {w : Table → Table} {Fits : Table → Type 0} (v : Through p w Fits) where
   -- as much room in the log
@@ -133,21 +128,19 @@ module _ {p : ℕ} {w : Table → Table} {Fits : Table → Type 0} (v : Through 
       rw (same-state t h, v .same-held t h, v .changed (toldAgain r) t h)
       (choose w (isOver (stateAt p t)) refl (choose w (eqb (stateAt p t) transaction.committing) refl refl))
 
-  -- the room in the log is looked at where a decision is due
-  pub follow-through : (f : FollowUp) (t : Table) (log : List ℕ) → Fits t → (isDecide f ≡ true → SameRoom t) → follow f p (w t) log ≡ through w (follow f p t log)
+  pub follow-through : (f : FollowUp) (t : Table) (log : List ℕ) → Fits t → SameRoom t → follow f p (w t) log ≡ through w (follow f p t log)
   unfolding follow
   follow-through then.Nothing t log h room = refl
   follow-through then.StartPhaseOne t log h room = rw (v .same-held t h) (choose w (any isPhaseZero (held p t)) refl (start-through t log h))
-  follow-through then.Decide t log h room = rw (v .same-held t h) (choose w (any (isIn enlistment.preparing) (held p t)) refl (decide-through t log h (room refl)))
+  follow-through then.Decide t log h room = rw (v .same-held t h) (choose w (any (isIn enlistment.preparing) (held p t)) refl (decide-through t log h room))
   follow-through then.End t log h room = end-if-done-through t log h
   follow-through then.Abort t log h room = abort-through t log h
   follow-through (then.EndWith a) t log h room = said w _ (end-through t log h)
 
-  pub react-through : (r : Reaction) (n : ℕ) (t : Table) (log : List ℕ) → Fits t → (decides r ≡ true → (f : Enlistment → Enlistment) → SameRoom (changeHeld p f t))
-      → react r p n (w t) log ≡ through w (react r p n t log)
+  pub react-through : (r : Reaction) (n : ℕ) (t : Table) (log : List ℕ) → Fits t → ((f : Enlistment → Enlistment) → Keeps f → SameRoom (changeHeld p f t)) → react r p n (w t) log ≡ through w (react r p n t log)
   unfolding react
   react-through reaction.Refused n t log h room = refl
   react-through (reaction.Freed f) n t log h room =
-      rw (v .changed (onNumber n freed) t h) (follow-through f (changeNumber p n freed t) log (v .changed-fits (onNumber n freed) t h) (λ d. room d (onNumber n freed)))
+      rw (v .changed (onNumber n freed) t h) (follow-through f (changeNumber p n freed t) log (v .changed-fits (onNumber n freed) t h) (room (onNumber n freed) (keeps-freed n)))
   react-through (reaction.Becomes s f) n t log h room =
-      rw (v .changed (onNumber n (inState s)) t h) (follow-through f (changeNumber p n (inState s) t) log (v .changed-fits (onNumber n (inState s)) t h) (λ d. room d (onNumber n (inState s))))
+      rw (v .changed (onNumber n (inState s)) t h) (follow-through f (changeNumber p n (inState s) t) log (v .changed-fits (onNumber n (inState s)) t h) (room (onNumber n (inState s)) (keeps-state n s)))
