@@ -10,8 +10,9 @@ use lib.ListN.{length, getD}
 use borrow.Author.Tests.{eqb-true, ne-eqb}
 use Rattle.lists.specs.Lists.{filter}
 use Rattle.lists.specs.Members.{Each}
-use Rattle.lists.proofs.Tests.{by-test, by-either, same-test, each-head, each-rest}
-use Rattle.lists.proofs.Places.{IsPlace, at-change-other, length-change}
+use Rattle.lists.specs.Places.{atFrom}
+use Rattle.lists.proofs.Tests.{by-test, by-either, same-test, each-nothing, each-head, each-rest}
+use Rattle.lists.proofs.Places.{IsPlace, at-change-same, at-change-other, length-change}
 use Rattle.rules.specs.declared.Enlistment.{Enlistment}
 use Rattle.rules.specs.declared.Table.{Table}
 use Rattle.rules.specs.Sizes.{recordSize}
@@ -19,8 +20,14 @@ use Rattle.rules.specs.Table.{noTransaction, noEnlistment, transactionAt, state
 use Rattle.rules.specs.Sound.{isOpen, openCount}
 use Rattle.rules.specs.Events.{lacksRoom}
 use Rattle.rules.proofs.Along.{oneIf}
+use Rattle.rules.proofs.Local.{Through}
 use Rattle.rules.proofs.Only.{Only, openAt, open-changes}
+use Rattle.holdings.specs.declared.Holding.{Holding}
+use Rattle.holdings.specs.Holdings.{alone, Placed}
 use Rattle.holdings.specs.Within.{refillFrom, within}
+use Rattle.holdings.proofs.Laws.{alone-at}
+use Rattle.holdings.proofs.Alone.{one-open}
+use Rattle.holdings.proofs.Within.{Fits, passes-through}
 
 -- each is held by p, or by none
 abbrev pub Owned : ℕ → Table → Type 0
@@ -51,6 +58,36 @@ module _ (tb : Table) (p : ℕ) (there : IsPlace (tb .transactions) p) where
     same-capacity = refl;
   }
 
-  -- others are open beside p: n of them in the table as it was
   open-within : (t : Table) → Owned p t → openCount (within tb p t) + oneIf (openAt p tb) ≡ openCount tb + oneIf (openAt p (within tb p t))
   open-within t o = open-changes p tb (within tb p t) (only t o) there
+
+  -- of a table in which nothing stands at p
+  abbrev nothing : Table
+  nothing = record { transactions = []; enlistments = []; capacity = 0; used = 0 }
+
+  some-open : oneIf (openAt p tb) ≤ openCount tb
+  unfolding atFrom
+  some-open =
+      let z : openAt p (within tb p nothing) ≡ false = ap (λ x. isOpen (x .state) (held p (within tb p nothing))) (at-change-same (λ x. noTransaction) noTransaction (tb .transactions) there) in
+      omega (arith, rw z at (open-within nothing (each-nothing _)))
+
+  module _ (h : Holding) (placed : Placed h) (is : h .place ≡ p) (fits : Fits tb p (alone h)) (o : Owned p (alone h)) where
+    open-there : openAt p (within tb p (alone h)) ≡ isOpen (h .transaction .state) (held (h .place) (alone h))
+    open-there = λ i. isOpen (state i) (same-held i)
+      where
+        v : Through p (within tb p) (Fits tb p)
+        v = passes-through tb p there
+
+        same-held : held p (within tb p (alone h)) ≡ held (h .place) (alone h)
+        same-held = v .same-held (alone h) fits ∙ ap (λ k. held k (alone h)) (sym is)
+
+        state : stateAt p (within tb p (alone h)) ≡ h .transaction .state
+        state = ap (λ x. x .state) (v .same-transaction (alone h) fits ∙ ap (λ k. transactionAt k (alone h)) (sym is) ∙ alone-at h placed)
+
+    -- the room of the holding is that of the table beside the other open ones
+    pub same-room : tb .capacity ≡ h .capacity + recordSize * (openCount tb - oneIf (openAt p tb)) → (n : ℕ) → lacksRoom n (within tb p (alone h)) ≡ lacksRoom n (alone h)
+    unfolding lacksRoom alone
+    same-room c n =
+        let a : openCount (within tb p (alone h)) + oneIf (openAt p tb) ≡ openCount tb + oneIf (openAt p (within tb p (alone h))) = open-within (alone h) o in
+        let b : openCount (alone h) ≡ oneIf (isOpen (h .transaction .state) (held (h .place) (alone h))) = ? in
+        ?

@@ -51,10 +51,10 @@ said w ss e = ap (λ x. saying ss x) e
 
 -- a place is freed, or its enlistment stays with its transaction
 keeps-freed : (n : ℕ) → Keeps (onNumber n freed)
-keeps-freed n e = by-cond (λ x. (x .holder ≡ e .holder) ⊎ (x .holder ≡ 0)) (isNumbered n e) (inr refl) (inl refl)
+keeps-freed n e = by-cond (λ (x : Enlistment). (x .holder ≡ e .holder) ⊎ (x .holder ≡ 0)) (isNumbered n e) (inr refl) (inl refl)
 
 keeps-state : (n s : ℕ) → Keeps (onNumber n (inState s))
-keeps-state n s e = by-cond (λ x. (x .holder ≡ e .holder) ⊎ (x .holder ≡ 0)) (isNumbered n e) (inl refl) (inl refl)
+keeps-state n s e = by-cond (λ (x : Enlistment). (x .holder ≡ e .holder) ⊎ (x .holder ≡ 0)) (isNumbered n e) (inl refl) (inl refl)
 
 module _ {p : ℕ} {w : Table → Table} {Fits : Table → Type 0} (v : Through p w Fits) where
   -- as much room in the log
