@@ -7,7 +7,7 @@ use mathlib.Core.Bool.{Bool, true, false, cond}
 use mathlib.Core.List.{List, [], _∷_}
 use lib.Dec.{eqb, ltb}
 use lib.ListN.{length, getD}
-use borrow.Author.Tests.{eqb-true, ne-eqb}
+use borrow.Author.Tests.{eqb-true, ne-eqb, ltb-true, lt-ltb}
 use Rattle.lists.specs.Lists.{filter}
 use Rattle.lists.specs.Members.{Each}
 use Rattle.lists.specs.Places.{atFrom}
@@ -17,7 +17,8 @@ use Rattle.rules.specs.declared.Enlistment.{Enlistment}
 use Rattle.rules.specs.declared.Table.{Table}
 use Rattle.rules.specs.Sizes.{recordSize}
 use Rattle.rules.specs.Table.{noTransaction, noEnlistment, transactionAt, stateAt, heldBy, held}
-use Rattle.rules.specs.Sound.{isOpen, openCount}
+use Rattle.rules.specs.Sound.{isOpen, openPlaces, openCount}
+use Rattle.rules.specs.Log.{commitSize, forgetSize}
 use Rattle.rules.specs.Events.{lacksRoom}
 use Rattle.rules.proofs.Along.{oneIf}
 use Rattle.rules.proofs.Local.{Through}
@@ -28,6 +29,13 @@ use Rattle.holdings.specs.Within.{refillFrom, within}
 use Rattle.holdings.proofs.Laws.{alone-at}
 use Rattle.holdings.proofs.Alone.{one-open}
 use Rattle.holdings.proofs.Within.{Fits, passes-through}
+
+-- m more bytes a record, for m records more
+as-much : (capacity capacity′ used n k k′ m : ℕ) → capacity ≡ capacity′ + recordSize * m → k ≡ k′ + m
+    → ltb (capacity - used) (commitSize n + forgetSize * (1 + k)) ≡ ltb (capacity′ - used) (commitSize n + forgetSize * (1 + k′))
+as-much capacity capacity′ used n k k′ m c e = same-test _ _
+    (λ t. lt-ltb (capacity′ - used) (commitSize n + forgetSize * (1 + k′)) (omega (arith, ltb-true (capacity - used) (commitSize n + forgetSize * (1 + k)) t)))
+    (λ t. lt-ltb (capacity - used) (commitSize n + forgetSize * (1 + k)) (omega (arith, ltb-true (capacity′ - used) (commitSize n + forgetSize * (1 + k′)) t)))
 
 -- each is held by p, or by none
 abbrev pub Owned : ℕ → Table → Type 0
@@ -86,8 +94,8 @@ module _ (tb : Table) (p : ℕ) (there : IsPlace (tb .transactions) p) where
 
     -- the room of the holding is that of the table beside the other open ones
     pub same-room : tb .capacity ≡ h .capacity + recordSize * (openCount tb - oneIf (openAt p tb)) → (n : ℕ) → lacksRoom n (within tb p (alone h)) ≡ lacksRoom n (alone h)
-    unfolding lacksRoom alone
+    unfolding lacksRoom alone openPlaces
     same-room c n =
         let a : openCount (within tb p (alone h)) + oneIf (openAt p tb) ≡ openCount tb + oneIf (openAt p (within tb p (alone h))) = open-within (alone h) o in
-        let b : openCount (alone h) ≡ oneIf (isOpen (h .transaction .state) (held (h .place) (alone h))) = ? in
-        ?
+        let b : oneIf (openAt p (within tb p (alone h))) ≡ openCount (alone h) = ap oneIf open-there ∙ sym (one-open h placed) in
+        as-much (tb .capacity) (h .capacity) (h .used) n (openCount (within tb p (alone h))) (openCount (alone h)) (openCount tb - oneIf (openAt p tb)) c (omega (arith, a, b, some-open))

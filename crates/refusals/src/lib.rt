@@ -196,7 +196,7 @@ pub fn about_one(n: u32, act: Act, e: Enlistment) -> u8
 
 // `lacks`: the transaction has no durable enlistment of the resource manager that isn't Done.
 pub fn ask(id: [u8; 16], rm: [u8; 16], state: u8, lacks: bool) -> u8
-    ensures { λ r. ⌜ ((tb : Table) → state ≡ stateAt (placeNamed id tb) tb → lacks ≡ none (isUndone rm) (held (placeNamed id tb) tb) → r ≡ firstOf (askChecks tb id rm)) ⌝ }
+    ensures { λ r. ⌜ ((tb : Table) → state ≡ stateAt (placeNamed id tb) tb → (isOver state ≡ false → lacks ≡ none (isUndone rm) (held (placeNamed id tb) tb)) → r ≡ firstOf (askChecks tb id rm)) ⌝ }
 {
     let zero = is_either_zero(id, rm);
     if zero {

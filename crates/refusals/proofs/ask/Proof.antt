@@ -1,4 +1,5 @@
 -- The checks of the definition, in its order.
+use mathlib.Core.Path.{sym, _∙_}
 use borrow.Author.Needs.{needs}
 use Rattle.rules.specs.Refusals.{firstOf}
 use Rattle.refusals.proofs.ask.Statement.{statement}
@@ -13,5 +14,5 @@ ask-spec =
     (λ c tb p q. rw (← c .before .is-either-zero .ensures, c .if1 .taken))
     (λ c κs. search needs)
     (λ c tb p q. rw (← c .before .before .before .is-either-zero .ensures, c .before .before .if1 .left, ← p, ← c .before .is-over .ensures, c .if2 .taken))
-    (λ c tb p q. rw (← c .before .before .before .before .is-either-zero .ensures, c .before .before .before .if1 .left, ← p, ← c .before .before .is-over .ensures, c .before .if2 .left, ← q, c .if3 .taken))
-    (λ c tb p q. rw (← c .before .before .before .before .is-either-zero .ensures, c .before .before .before .if1 .left, ← p, ← c .before .before .is-over .ensures, c .before .if2 .left, ← q, c .if3 .left)))
+    (λ c tb p q. rw (← c .before .before .before .before .is-either-zero .ensures, c .before .before .before .if1 .left, ← p, ← c .before .before .is-over .ensures, c .before .if2 .left, ← q (sym (c .before .before .is-over .ensures) ∙ c .before .if2 .left), c .if3 .taken))
+    (λ c tb p q. rw (← c .before .before .before .before .is-either-zero .ensures, c .before .before .before .if1 .left, ← p, ← c .before .before .is-over .ensures, c .before .if2 .left, ← q (sym (c .before .before .is-over .ensures) ∙ c .before .if2 .left), c .if3 .left)))
