@@ -2,16 +2,21 @@
 
 ghost use mathlib.Core.Path.{_≡_};
 ghost use mathlib.Core.List.{map};
-ghost use Prim.Native.Nat.{_≤_};
+ghost use mathlib.Core.Bool.{_&&_};
+ghost use Prim.Native.Nat.{ℕ, _≤_};
 ghost use lib.ListN.{length, take};
-ghost use Rattle.lists.specs.Lists.{firstOr};
+ghost use Rattle.lists.specs.Lists.{any, filter, firstOr};
 ghost use Rattle.lists.specs.Places.{placeOf, at, changeAt};
-ghost use Rattle.rules.specs.Table.{noTransaction, noEnlistment, isFree, isNamed, isVacant, isNumbered};
-ghost use Rattle.rows.specs.Memory.{transactionIn, numberIn, enlistmentIn};
+ghost use Rattle.rules.specs.Table.{noTransaction, noEnlistment, isFree, isNamed, isVacant, isNumbered, heldBy, isDurable};
+ghost use Rattle.rules.specs.Sound.{isOpen, openCount};
+ghost use Rattle.rows.specs.Memory.{transactionIn, numberIn, enlistmentIn, tableIn};
 use rules::Enlistment;
 use rules::RmId;
+use rules::Table;
 use rules::Transaction;
 use rules::TxId;
+use rules::kinds;
+use rules::transaction_state;
 
 // ---- One transaction, and one enlistment.
 
@@ -274,4 +279,133 @@ pub fn put_enlistment(rows: &mut [[u8; 24]; 128], p: u8, e: Enlistment)
         let row = row_of(e);
         rows[k] = row;
     }
+}
+
+// ---- A whole table.
+
+pub fn heads_of(transactions: [Transaction; 32], heads: &mut [[u8; 17]; 32])
+    requires { ⌜ length (now heads) ≡ 32 ⌝ }
+    ensures { λ r. ⌜ (length (now (heads .exit)) ≡ 32) × (map transactionIn (now (heads .exit)) ≡ transactions) ⌝ }
+{
+    let mut i: usize = 0;
+    while i < 32 {
+        let x = transactions[i];
+        let head = head_of(x);
+        heads[i] = head;
+        i += 1;
+    }
+}
+
+pub fn rows_of(enlistments: [Enlistment; 128], rows: &mut [[u8; 24]; 128])
+    requires { ⌜ length (now rows) ≡ 128 ⌝ }
+    ensures { λ r. ⌜ (length (now (rows .exit)) ≡ 128) × (map enlistmentIn (now (rows .exit)) ≡ enlistments) ⌝ }
+{
+    let mut i: usize = 0;
+    while i < 128 {
+        let e = enlistments[i];
+        let row = row_of(e);
+        rows[i] = row;
+        i += 1;
+    }
+}
+
+pub fn transactions_in(heads: &[[u8; 17]; 32]) -> [Transaction; 32]
+    requires { ⌜ length (now heads) ≡ 32 ⌝ }
+    ensures { λ r. ⌜ r ≡ map transactionIn (now (heads .entry)) ⌝ }
+{
+    let none = places::no_transaction();
+    let mut transactions = [none; 32];
+    let mut i: usize = 0;
+    while i < 32 {
+        let head = heads[i];
+        let x = transaction_in(head);
+        transactions[i] = x;
+        i += 1;
+    }
+    transactions
+}
+
+pub fn enlistments_in(rows: &[[u8; 24]; 128]) -> [Enlistment; 128]
+    requires { ⌜ length (now rows) ≡ 128 ⌝ }
+    ensures { λ r. ⌜ r ≡ map enlistmentIn (now (rows .entry)) ⌝ }
+{
+    let none = places::no_enlistment();
+    let mut enlistments = [none; 128];
+    let mut i: usize = 0;
+    while i < 128 {
+        let row = rows[i];
+        let e = enlistment_in(row);
+        enlistments[i] = e;
+        i += 1;
+    }
+    enlistments
+}
+
+pub fn table_in(heads: &[[u8; 17]; 32], rows: &[[u8; 24]; 128], capacity: u32, used: u32) -> Table
+    requires { ⌜ (length (now heads) ≡ 32) × (length (now rows) ≡ 128) ⌝ }
+    ensures { λ r. ⌜ r ≡ tableIn (now (heads .entry)) (now (rows .entry)) capacity used ⌝ }
+{
+    let transactions = transactions_in(heads);
+    let enlistments = enlistments_in(rows);
+    Table {
+        transactions: transactions,
+        enlistments: enlistments,
+        capacity: capacity,
+        used: used,
+    }
+}
+
+// ---- The open ones.
+
+fn is_durable_of(row: [u8; 24], p: u8) -> bool
+    ensures { λ r. ⌜ r ≡ (heldBy p (enlistmentIn row) && isDurable (enlistmentIn row)) ⌝ }
+{
+    let mine = row[20] == p;
+    if mine { row[21] == kinds::DURABLE } else { false }
+}
+
+// Whether the transaction at place p holds a durable enlistment.
+fn has_durable(rows: &[[u8; 24]; 128], p: u8) -> bool
+    requires { ⌜ length (now rows) ≡ 128 ⌝ }
+    ensures { λ r. ⌜ r ≡ any (λ e. heldBy p e && isDurable e) (map enlistmentIn (now (rows .entry))) ⌝ }
+{
+    let mut i: usize = 0;
+    while i < 128 {
+        let row = rows[i];
+        let hit = is_durable_of(row, p);
+        i += 1;
+        if hit {
+            return true;
+        }
+    }
+    false
+}
+
+// Of a transaction in this state.
+fn is_open(rows: &[[u8; 24]; 128], p: u8, state: u8) -> bool
+    requires { ⌜ length (now rows) ≡ 128 ⌝ }
+    ensures { λ r. ⌜ r ≡ isOpen state (filter (heldBy p) (map enlistmentIn (now (rows .entry)))) ⌝ }
+{
+    let committing = state == transaction_state::COMMITTING;
+    if committing {
+        return has_durable(rows, p);
+    }
+    false
+}
+
+pub fn open_count(heads: &[[u8; 17]; 32], rows: &[[u8; 24]; 128]) -> u8
+    requires { ⌜ (length (now heads) ≡ 32) × (length (now rows) ≡ 128) ⌝ }
+    ensures { λ r. ⌜ ((capacity used : ℕ) → r ≡ openCount (tableIn (now (heads .entry)) (now (rows .entry)) capacity used)) × (r ≤ 32) ⌝ }
+{
+    let mut n: u8 = 0;
+    let mut i: u8 = 32;
+    while 0 < i {
+        let p = i;
+        i -= 1;
+        let k = i as usize;
+        let head = heads[k];
+        let so = is_open(rows, p, head[16]);
+        n = passes::more(n, so);
+    }
+    n
 }

@@ -5,6 +5,7 @@ use borrow.Author.Needs.{needs}
 use Rattle.lists.proofs.Loops.{Sought, seek-start, seek-miss, seek-hit, seek-done}
 use Rattle.rules.specs.Table.{isNamed}
 use Rattle.rows.specs.Memory.{transactionIn}
+use Rattle.rows.proofs.Mapped.{seen}
 use Rattle.rows.proofs.place_named.Statement.{statement}
 use Rattle.rows.proofs.place_named.Tie as tie
 
