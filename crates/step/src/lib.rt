@@ -11,12 +11,22 @@ ghost use Rattle.rules.specs.Events.{acceptedOf};
 ghost use Rattle.rules.specs.Refusals.{refusalOf};
 ghost use Rattle.rules.specs.Step.{IsStep, refusedStep, answerOf};
 ghost use Rattle.endings.specs.Gives.{Gives};
+ghost use Rattle.rows.specs.Memory.{tableIn};
+ghost use Rattle.step.specs.StepIn.{IsStepIn};
 use endings::Accepted;
 use rules::Act;
 use rules::Event;
+use rules::Signals;
 use rules::Stepped;
 use rules::Table;
 use rules::refusal;
+
+// Of a step on a table in lent memory: the table's capacity stays, and the rest of it is in that memory.
+pub struct Answer {
+    pub signals: Signals,
+    pub used: u32,
+    pub refusal: u8,
+}
 
 // A table whose log holds the header alone.
 pub fn fresh(capacity: u32) -> Table
@@ -103,4 +113,32 @@ pub fn step(table: Table, event: Event, log: &mut [u8]) -> Stepped
 {
     let sound = sound::is_sound(table);
     step_known(table, event, log, sound)
+}
+
+// The table is changed where it stands.
+pub fn step_in(
+    heads: &mut [[u8; 17]; 32],
+    rows: &mut [[u8; 24]; 128],
+    capacity: u32,
+    used: u32,
+    sound: bool,
+    event: Event,
+    log: &mut [u8],
+) -> Answer
+    requires { ⌜ (length (now heads) ≡ 32) × (length (now rows) ≡ 128) × (sound ≡ soundOf (tableIn (now heads) (now rows) capacity used)) ⌝ }
+    ensures { λ r. ⌜ IsStepIn (tableIn (now (heads .entry)) (now (rows .entry)) capacity used) event (now (log .entry)) r (now (heads .exit)) (now (rows .exit)) (now (log .exit)) ⌝ }
+{
+    let table = rows::table_in(heads, rows, capacity, used);
+    let s = step_known(table, event, log, sound);
+    let after = s.table;
+    let transactions = after.transactions;
+    rows::heads_of(transactions, heads);
+    let enlistments = after.enlistments;
+    rows::rows_of(enlistments, rows);
+    let signals = s.signals;
+    Answer {
+        signals: signals,
+        used: after.used,
+        refusal: s.refusal,
+    }
 }
