@@ -361,7 +361,11 @@ fn is_durable_of(row: [u8; 24], p: u8) -> bool
     ensures { λ r. ⌜ r ≡ (heldBy p (enlistmentIn row) && isDurable (enlistmentIn row)) ⌝ }
 {
     let mine = row[20] == p;
-    if mine { row[21] == kinds::DURABLE } else { false }
+    if mine {
+        row[21] == kinds::DURABLE
+    } else {
+        false
+    }
 }
 
 // Whether the transaction at place p holds a durable enlistment.

@@ -14,4 +14,4 @@ is-named-spec =
     (λ c. search needs)
     (λ c κs. search needs)
     (λ c κs. search needs)
-    (λ c. rw (c .before .before .if1 .left, ← c .before .identifier-in .ensures) (c .same .ensures)))
+    (λ c. rw (c .before .before .before .if1 .left, ← c .before .identifier-in .ensures) (c .same .ensures)))
