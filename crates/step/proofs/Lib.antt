@@ -1,2 +1,4 @@
 pub mod Laws
 pub mod Determined
+pub mod Capacity
+pub mod InMemory
