@@ -83,7 +83,14 @@ fn obey_unreadable(capacity: u32, used: u32, sound: bool, buffer: &mut [u8; OUTP
     ensures { λ r. ⌜ Answers capacity used sound unreadableLine (rowOf []) (now (buffer .entry)) r (now (buffer .exit)) ⌝ }
 {
     let none = no_signals();
-    answered(capacity, used, sound, refusal::UNREADABLE_LINE, none, buffer)
+    answered(
+        capacity,
+        used,
+        sound,
+        refusal::UNREADABLE_LINE,
+        none,
+        buffer,
+    )
 }
 
 // The one line after which the test is made anew; it is rare.
