@@ -8,15 +8,16 @@ use Rattle.rules.specs.Sound.{soundOf}
 use Rattle.rules.specs.Trace.{Traced, tracedOf}
 use Rattle.trace_line.specs.Promises.{newline, outputMost}
 use Rattle.trace_line.specs.Puts.{Puts}
-use Rattle.trace_run.specs.declared.Obeyed.{Obeyed}
-use Rattle.trace_run.specs.Promises.{Obeys}
+use Rattle.trace_run.specs.declared.Left.{Left}
+use Rattle.trace_run.specs.Promises.{ObeysIn}
+use Rattle.rows.specs.Memory.{tableIn}
 use Rattle.trace.specs.declared.Session.{Session}
 use Rattle.trace.specs.Program.{answered}
 use Rattle.trace.specs.Sessions.{Ready, Answers}
 use Rattle.trace.proofs.Memory.{put-long, put-taken}
 use Rattle.trace.proofs.Kept.{traced-kept}
 
-module _ {t : Traced} {before after log : List ℕ} {o : Obeyed} (p : Obeys t before o log after) (l : length before ≡ outputMost) where
+module _ {t : Traced} {before after log : List ℕ} {heads rows : List (List ℕ)} {o : Left} (p : ObeysIn t before o heads rows log after) (l : length before ≡ outputMost) where
   pub output-there : take (o .size) after ≡ t .output ++ (newline ∷ [])
   output-there =
       let q : Puts (t .output ++ (newline ∷ [])) before 0 (o .size) after = record { ends = omega (arith, p .sized); same = p .bytes } in
@@ -27,18 +28,21 @@ module _ {t : Traced} {before after log : List ℕ} {o : Obeyed} (p : Obeys t be
       let q : Puts (t .output ++ (newline ∷ [])) before 0 (o .size) after = record { ends = omega (arith, p .sized); same = p .bytes } in
       put-long q ∙ l
 
-pub answer-stands : {s : Session} {log line output buffer log′ output′ buffer′ : List ℕ} {o : Obeyed} {n : ℕ}
-    → Ready s line output → length buffer ≡ outputMost
-    → Obeys (tracedOf (take (s .kept) line) (s .table) log) buffer o log′ buffer′ → o .sound ≡ soundOf (o .table)
+pub answer-stands : {s : Session} {heads rows heads′ rows′ : List (List ℕ)} {log line output buffer log′ output′ buffer′ : List ℕ} {o : Left} {n : ℕ}
+    → Ready s heads rows line output → length buffer ≡ outputMost
+    → ObeysIn (tracedOf (take (s .kept) line) (tableIn heads rows (s .capacity) (s .used)) log) buffer o heads′ rows′ log′ buffer′
+    → o .sound ≡ soundOf (tableIn heads′ rows′ (o .capacity) (o .used))
     → Puts (take (o .size) buffer′) output (s .waiting) n output′
-    → Answers s log line output (record { table = o .table; sound = o .sound; kept = 0; taken = s .taken; waiting = n; writable = s .writable }) log′ output′
+    → Answers s heads rows log line output (record { capacity = o .capacity; used = o .used; sound = o .sound; kept = 0; taken = s .taken; waiting = n; writable = s .writable }) heads′ rows′ log′ output′
 unfolding answered
-answer-stands {s} {log} {line} {output} {buffer} {log′} {output′} {buffer′} {o} {n} r l p known q =
+answer-stands {s} {heads} {rows} {log = log} {line = line} {buffer′ = buffer′} {o = o} r l p known q =
     let there = output-there p l in
     let size : length (take (o .size) buffer′) ≡ o .size = rw there (sym (p .sized)) in
     record {
       fits = record {
         sound = known;
+        long-heads = p .long-heads;
+        long-rows = p .long-rows;
         kept = omega arith;
         waiting = omega (arith, q .ends, p .within, r .free);
         line-long = r .fits .line-long;
@@ -46,7 +50,7 @@ answer-stands {s} {log} {line} {output} {buffer} {log′} {output′} {buffer′
       };
       taken = refl;
       same = λ w h.
-          let e : tracedOf (take (s .kept) line) (s .table) log ≡ tracedOf (w .line) (w .table) (w .log) =
+          let e : tracedOf (take (s .kept) line) (tableIn heads rows (s .capacity) (s .used)) log ≡ tracedOf (w .line) (w .table) (w .log) =
           rw (h .present, h .table, h .stored) (traced-kept (w .line) (w .table) (w .log)) in
           record {
             table = p .table ∙ ap (λ x. x .table) e;

@@ -9,14 +9,14 @@ use Rattle.trace.specs.declared.Session.{Session}
 use Rattle.trace.specs.Program.{Stand, afterAll}
 use Rattle.trace.specs.Sessions.{Stands, Ready, Answers, Finishes, lineKept}
 
-kept-all : {w : Stand} {s : Session} {log line output : List ℕ} → Ready s line output → Stands w s log line output
+kept-all : {w : Stand} {s : Session} {heads rows : List (List ℕ)} {log line output : List ℕ} → Ready s heads rows line output → Stands w s heads rows log line output
     → s .kept ≡ length (take lineKept (w .line))
-kept-all {w} {s} {log} {line} r h =
+kept-all {w} {s} {line = line} r h =
     let e : length (take (s .kept) line) ≡ s .kept = simp length-take (omega (arith, r .fits .kept, r .fits .line-long)) in
     sym e ∙ ap length (h .present)
 
-module _ {s : Session} {log line output : List ℕ} (r : Ready s line output) where
-  pub finish-nothing : s .kept ≡ 0 → Finishes s log line output s log output
+module _ {s : Session} {heads rows : List (List ℕ)} {log line output : List ℕ} (r : Ready s heads rows line output) where
+  pub finish-nothing : s .kept ≡ 0 → Finishes s heads rows log line output s heads rows log output
   unfolding afterAll
   finish-nothing e =
       record {
@@ -26,8 +26,8 @@ module _ {s : Session} {log line output : List ℕ} (r : Ready s line output) wh
             rw (eq-eqb (length (w .line)) 0 n) h;
       }
 
-  pub finish-last : {t : Session} {log′ output′ : List ℕ} → (s .kept ≡ 0 → ⊥) → Answers s log line output t log′ output′
-      → Finishes s log line output t log′ output′
+  pub finish-last : {t : Session} {heads′ rows′ : List (List ℕ)} {log′ output′ : List ℕ} → (s .kept ≡ 0 → ⊥) → Answers s heads rows log line output t heads′ rows′ log′ output′
+      → Finishes s heads rows log line output t heads′ rows′ log′ output′
   unfolding afterAll
   finish-last n a =
       record {

@@ -3,35 +3,43 @@ use mathlib.Core.Path.{_≡_}
 use mathlib.Core.Bool.{true}
 use mathlib.Core.List.{List, [], _++_}
 use Prim.Native.Nat.{ℕ}
+use native.Mathlib.Omega.{arith}
 use lib.ListN.{length, replicate}
-use Rattle.rules.specs.Restart.{restartOf}
 use Rattle.rules.specs.Trace.{traceCapacity}
 use Rattle.trace.specs.declared.Session.{Session}
 use Rattle.trace.specs.Program.{afterBytes, written, start}
-use Rattle.trace.specs.Sessions.{Stands, Fits, TakesAll}
+use Rattle.trace.specs.Sessions.{Stands, Fits, TakesAll, Starts, lineKept, room}
 use Rattle.trace.proofs.Bytes.{after-both, written-between}
 
-pub record Reached (s : Session) (log line output : List ℕ) : Type 0 where
+pub record Reached (s : Session) (heads rows : List (List ℕ)) (log line output : List ℕ) : Type 0 where
   pub input : List ℕ
-  pub fits : Fits s line output
+  pub fits : Fits s heads rows line output
   pub none : s .waiting ≡ 0
   pub log-long : length log ≡ traceCapacity
-  pub stands : Stands (written (afterBytes start input)) s log line output
+  pub stands : Stands (written (afterBytes start input)) s heads rows log line output
 
-pub reached-start : {s : Session} {log line output : List ℕ} → Fits s line output → s .kept ≡ 0 → s .waiting ≡ 0 → length log ≡ traceCapacity
-    → s .table ≡ restartOf (replicate traceCapacity 0) 0 .table → log ≡ restartOf (replicate traceCapacity 0) 0 .log → Reached s log line output
+pub reached-start : {s : Session} {heads rows : List (List ℕ)} {log line output : List ℕ} → Starts (replicate traceCapacity 0) s heads rows log
+    → length log ≡ traceCapacity → length line ≡ lineKept → length output ≡ room → Reached s heads rows log line output
 unfolding afterBytes start
-reached-start f k n l t g =
+reached-start b l k o =
     record {
       input = [];
-      fits = f;
-      none = n;
+      fits = record {
+        sound = b .sound;
+        long-heads = b .long-heads;
+        long-rows = b .long-rows;
+        kept = omega (arith, b .kept);
+        waiting = omega (arith, b .waiting);
+        line-long = k;
+        output-long = o;
+      };
+      none = b .waiting;
       log-long = l;
-      stands = record { table = t; stored = g; present = rw k; printed = rw n };
+      stands = record { table = b .table; stored = b .stored; present = rw (b .kept); printed = rw (b .waiting) };
     }
 
-pub reached-again : {s r : Session} {block log line output log′ line′ output′ : List ℕ} → Reached s log line output
-    → TakesAll s block log line output r log′ line′ output′ → r .writable ≡ true → length log′ ≡ traceCapacity → Reached r log′ line′ output′
+pub reached-again : {s r : Session} {heads rows heads′ rows′ : List (List ℕ)} {block log line output log′ line′ output′ : List ℕ} → Reached s heads rows log line output
+    → TakesAll s heads rows block log line output r heads′ rows′ log′ line′ output′ → r .writable ≡ true → length log′ ≡ traceCapacity → Reached r heads′ rows′ log′ line′ output′
 reached-again {block = block} p t e l =
     record {
       input = p .input ++ block;

@@ -17,12 +17,12 @@ take-more zero a b = refl
 take-more (suc n) [] b = refl
 take-more (suc n) (x ∷ xs) b = ap (_∷_ x) (take-more n xs b)
 
-pub more-stands : {w : Stand} {s r : Session} {log line output more line′ : List ℕ}
-    → Keeps (s .kept) line more (r .kept) line′ → r .table ≡ s .table → r .waiting ≡ s .waiting
-    → Stands w s log line output → Stands (withMore w more) r log line′ output
-more-stands {w} {more = more} k t p h =
+pub more-stands : {w : Stand} {s r : Session} {heads rows : List (List ℕ)} {log line output more line′ : List ℕ}
+    → Keeps (s .kept) line more (r .kept) line′ → r .capacity ≡ s .capacity → r .used ≡ s .used → r .waiting ≡ s .waiting
+    → Stands w s heads rows log line output → Stands (withMore w more) r heads rows log line′ output
+more-stands {w} {more = more} k c u p h =
     record {
-      table = t ∙ h .table;
+      table = rw (c, u) (h .table);
       stored = h .stored;
       present = k .same ∙ rw (h .present) (take-more lineKept (w .line) more);
       printed = rw p (h .printed);
@@ -43,16 +43,16 @@ module _ (block : List ℕ) (from end : ℕ) (found : end ≡ from + indexOf new
       rw (e, to-newline) (after-line w (drop from block) (simp length-drop (omega (arith, to-newline))))
 
 abbrev lengthened : Session → ℕ → ℕ → Session
-lengthened s kept taken = record { table = s .table; sound = s .sound; kept = kept; taken = taken; waiting = s .waiting; writable = s .writable }
+lengthened s kept taken = record { capacity = s .capacity; used = s .used; sound = s .sound; kept = kept; taken = taken; waiting = s .waiting; writable = s .writable }
 
-module _ {s : Session} {block log line output line′ : List ℕ} {end kept : ℕ}
-    (ready : Ready s line output) (within : s .taken ≤ length block)
+module _ {s : Session} {heads rows : List (List ℕ)} {block log line output line′ : List ℕ} {end kept : ℕ}
+    (ready : Ready s heads rows line output) (within : s .taken ≤ length block)
     (found : end ≡ s .taken + indexOf newline (slice (s .taken) (length block) block))
     (keeps : Keeps (s .kept) line (part (s .taken) end block) kept line′)
   where
-    pub line-taken : {r : Session} {log′ output′ : List ℕ} → end < length block → Answers (lengthened s kept (end + 1)) log line′ output r log′ output′
-        → Takes s block log line output r log′ line′ output′
-    line-taken {r} {log′} {output′} h a =
+    pub line-taken : {r : Session} {heads′ rows′ : List (List ℕ)} {log′ output′ : List ℕ} → end < length block
+        → Answers (lengthened s kept (end + 1)) heads rows log line′ output r heads′ rows′ log′ output′ → Takes s heads rows block log line output r heads′ rows′ log′ line′ output′
+    line-taken {r} h a =
         let t : r .taken ≡ end + 1 = a .taken in
         record {
           fits = a .fits;
@@ -62,14 +62,16 @@ module _ {s : Session} {block log line output line′ : List ℕ} {end kept : �
           same = λ w q.
               let e : afterBytes w (part (s .taken) (r .taken) block) ≡ answered (withMore w (part (s .taken) end block)) =
               rw t (after-whole block (s .taken) end found within w h (omega (arith, found))) in
-              rw e (a .same (withMore w (part (s .taken) end block)) (more-stands keeps refl refl q));
+              rw e (a .same (withMore w (part (s .taken) end block)) (more-stands keeps refl refl refl q));
         }
 
-    pub rest-taken : length block ≤ end → end ≤ length block → Takes s block log line output (lengthened s kept end) log line′ output
+    pub rest-taken : length block ≤ end → end ≤ length block → Takes s heads rows block log line output (lengthened s kept end) heads rows log line′ output
     rest-taken h k =
         record {
           fits = record {
             sound = ready .fits .sound;
+            long-heads = ready .fits .long-heads;
+            long-rows = ready .fits .long-rows;
             kept = keeps .within;
             waiting = ready .fits .waiting;
             line-long = keeps .long;
@@ -78,5 +80,5 @@ module _ {s : Session} {block log line output line′ : List ℕ} {end kept : �
           onward = omega (arith, found);
           within = k;
           some = λ q. omega arith;
-          same = λ w q. rw (after-rest block (s .taken) end found within w) (more-stands keeps refl refl q);
+          same = λ w q. rw (after-rest block (s .taken) end found within w) (more-stands keeps refl refl refl q);
         }

@@ -4,10 +4,9 @@ ghost use mathlib.Core.Path.{_≡_};
 ghost use Prim.Native.Nat.{_+_, _≤_, _<_, min};
 ghost use lib.ListN.{length};
 ghost use Rattle.trace_line.specs.Puts.{Puts};
-ghost use Rattle.trace.specs.Sessions.{Fits, Ready, Keeps, Answers, Takes, Writes, TakesAll, Finishes, lineKept};
+ghost use Rattle.trace.specs.Sessions.{Fits, Ready, Keeps, Answers, Takes, Writes, TakesAll, Finishes, Starts, lineKept};
 use libc::STDIN_FILENO;
 use libc::STDOUT_FILENO;
-use rules::Table;
 use rules::sizes;
 use trace_line::OUTPUT;
 
@@ -21,10 +20,11 @@ const NEWLINE: u8 = b'\n';
 
 const CAPACITY: usize = 4096;
 
-// The table, and whether it is sound; how many bytes of the present line are kept, of the present block are taken, and of output wait; and whether the output still
-// takes any.
+// Of the table, whose transactions and enlistments are in memory of their own, the capacity, the used length, and whether it is sound; how many bytes of the present
+// line are kept, of the present block are taken, and of output wait; and whether the output still takes any.
 struct Session {
-    table: Table,
+    capacity: u32,
+    used: u32,
     sound: bool,
     kept: usize,
     taken: usize,
@@ -61,19 +61,34 @@ fn keep(line: &mut [u8], kept: usize, more: &[u8]) -> usize
 }
 
 // The present line is whole.
-fn answer(s: Session, log: &mut [u8], line: &[u8], output: &mut [u8]) -> Session
-    requires { ⌜ Ready s (now line) (now output) ⌝ }
-    ensures { λ r. ⌜ Answers s (now (log .entry)) (now (line .entry)) (now (output .entry)) r (now (log .exit)) (now (output .exit)) ⌝ }
+fn answer(
+    s: Session,
+    heads: &mut [[u8; 17]; 32],
+    rows: &mut [[u8; 24]; 128],
+    log: &mut [u8],
+    line: &[u8],
+    output: &mut [u8],
+) -> Session
+    requires { ⌜ Ready s (now heads) (now rows) (now line) (now output) ⌝ }
+    ensures { λ r. ⌜ Answers s (now (heads .entry)) (now (rows .entry)) (now (log .entry)) (now (line .entry)) (now (output .entry)) r (now (heads .exit)) (now (rows .exit)) (now (log .exit)) (now (output .exit)) ⌝ }
 {
     let mut buffer = [0u8; OUTPUT];
     let kept = s.kept;
-    let table = s.table;
-    let o = trace_run::obey_known(&line[..kept], table, s.sound, log, &mut buffer);
+    let o = trace_run::obey_in(
+        &line[..kept],
+        heads,
+        rows,
+        s.capacity,
+        s.used,
+        s.sound,
+        log,
+        &mut buffer,
+    );
     let size = o.size;
     let waiting = put(output, s.waiting, &buffer[..size]);
-    let after = o.table;
     Session {
-        table: after,
+        capacity: o.capacity,
+        used: o.used,
         sound: o.sound,
         kept: 0,
         taken: s.taken,
@@ -85,13 +100,15 @@ fn answer(s: Session, log: &mut [u8], line: &[u8], output: &mut [u8]) -> Session
 // What is left of the block, up to the first end of a line in it.
 fn take_line(
     s: Session,
+    heads: &mut [[u8; 17]; 32],
+    rows: &mut [[u8; 24]; 128],
     block: &[u8],
     log: &mut [u8],
     line: &mut [u8],
     output: &mut [u8],
 ) -> Session
-    requires { ⌜ Ready s (now line) (now output) × (s .taken ≤ length (now block)) ⌝ }
-    ensures { λ r. ⌜ Takes s (now (block .entry)) (now (log .entry)) (now (line .entry)) (now (output .entry)) r (now (log .exit)) (now (line .exit)) (now (output .exit)) ⌝ }
+    requires { ⌜ Ready s (now heads) (now rows) (now line) (now output) × (s .taken ≤ length (now block)) ⌝ }
+    ensures { λ r. ⌜ Takes s (now (heads .entry)) (now (rows .entry)) (now (block .entry)) (now (log .entry)) (now (line .entry)) (now (output .entry)) r (now (heads .exit)) (now (rows .exit)) (now (log .exit)) (now (line .exit)) (now (output .exit)) ⌝ }
 {
     let from = s.taken;
     let end = bytes::scan::find(block, from, block.len(), NEWLINE);
@@ -99,7 +116,7 @@ fn take_line(
     more.kept = keep(line, s.kept, &block[from..end]);
     if end < block.len() {
         more.taken = end + 1;
-        return answer(more, log, line, output);
+        return answer(more, heads, rows, log, line, output);
     }
     more.taken = end;
     more
@@ -108,20 +125,22 @@ fn take_line(
 // What is left of the block, as far as there is room for the answers.
 fn take_lines(
     start: Session,
+    heads: &mut [[u8; 17]; 32],
+    rows: &mut [[u8; 24]; 128],
     block: &[u8],
     log: &mut [u8],
     line: &mut [u8],
     output: &mut [u8],
 ) -> Session
-    requires { ⌜ Ready start (now line) (now output) × (start .taken ≤ length (now block)) ⌝ }
-    ensures { λ r. ⌜ Takes start (now (block .entry)) (now (log .entry)) (now (line .entry)) (now (output .entry)) r (now (log .exit)) (now (line .exit)) (now (output .exit)) ⌝ }
+    requires { ⌜ Ready start (now heads) (now rows) (now line) (now output) × (start .taken ≤ length (now block)) ⌝ }
+    ensures { λ r. ⌜ Takes start (now (heads .entry)) (now (rows .entry)) (now (block .entry)) (now (log .entry)) (now (line .entry)) (now (output .entry)) r (now (heads .exit)) (now (rows .exit)) (now (log .exit)) (now (line .exit)) (now (output .exit)) ⌝ }
 {
     let mut s = start;
     while s.taken < block.len() {
         if ROOM < s.waiting + OUTPUT {
             return s;
         }
-        let next = take_line(s, block, log, line, output);
+        let next = take_line(s, heads, rows, block, log, line, output);
         s = next;
     }
     s
@@ -141,18 +160,20 @@ fn flush(s: Session, output: &[u8]) -> Session
 
 fn take_block(
     start: Session,
+    heads: &mut [[u8; 17]; 32],
+    rows: &mut [[u8; 24]; 128],
     block: &[u8],
     log: &mut [u8],
     line: &mut [u8],
     output: &mut [u8],
 ) -> Session
-    requires { ⌜ Fits start (now line) (now output) × (start .waiting ≡ 0) ⌝ }
-    ensures { λ r. ⌜ TakesAll start (now (block .entry)) (now (log .entry)) (now (line .entry)) (now (output .entry)) r (now (log .exit)) (now (line .exit)) (now (output .exit)) ⌝ }
+    requires { ⌜ Fits start (now heads) (now rows) (now line) (now output) × (start .waiting ≡ 0) ⌝ }
+    ensures { λ r. ⌜ TakesAll start (now (heads .entry)) (now (rows .entry)) (now (block .entry)) (now (log .entry)) (now (line .entry)) (now (output .entry)) r (now (heads .exit)) (now (rows .exit)) (now (log .exit)) (now (line .exit)) (now (output .exit)) ⌝ }
 {
     let mut s = start;
     s.taken = 0;
     while s.taken < block.len() {
-        let next = take_lines(s, block, log, line, output);
+        let next = take_lines(s, heads, rows, block, log, line, output);
         let after = flush(next, output);
         s = after;
         if s.writable {} else {
@@ -163,30 +184,49 @@ fn take_block(
 }
 
 // The input has ended; the last line may lack its newline.
-fn finish(s: Session, log: &mut [u8], line: &[u8], output: &mut [u8]) -> Session
-    requires { ⌜ Ready s (now line) (now output) ⌝ }
-    ensures { λ r. ⌜ Finishes s (now (log .entry)) (now (line .entry)) (now (output .entry)) r (now (log .exit)) (now (output .exit)) ⌝ }
+fn finish(
+    s: Session,
+    heads: &mut [[u8; 17]; 32],
+    rows: &mut [[u8; 24]; 128],
+    log: &mut [u8],
+    line: &[u8],
+    output: &mut [u8],
+) -> Session
+    requires { ⌜ Ready s (now heads) (now rows) (now line) (now output) ⌝ }
+    ensures { λ r. ⌜ Finishes s (now (heads .entry)) (now (rows .entry)) (now (log .entry)) (now (line .entry)) (now (output .entry)) r (now (heads .exit)) (now (rows .exit)) (now (log .exit)) (now (output .exit)) ⌝ }
 {
     if s.kept == 0 {
         return s;
     }
-    answer(s, log, line, output)
+    answer(s, heads, rows, log, line, output)
 }
 
-fn main() {
-    let mut log = [0u8; CAPACITY];
-    let started = restart::restart(&mut log, 0);
-    let table = started.table;
+// On a log that holds nothing yet.
+fn started(heads: &mut [[u8; 17]; 32], rows: &mut [[u8; 24]; 128], log: &mut [u8]) -> Session
+    requires { ⌜ (length (now heads) ≡ 32) × (length (now rows) ≡ 128) ⌝ }
+    ensures { λ r. ⌜ Starts (now (log .entry)) r (now (heads .exit)) (now (rows .exit)) (now (log .exit)) ⌝ }
+{
+    let r = restart::restart(log, 0);
+    let table = r.table;
+    trace_run::put_table(table, heads, rows);
     // Once: from here on each line says it of the table that it leaves.
     let sound = step::is_sound(table);
-    let mut s = Session {
-        table: table,
+    Session {
+        capacity: table.capacity,
+        used: table.used,
         sound: sound,
         kept: 0,
         taken: 0,
         waiting: 0,
         writable: true,
-    };
+    }
+}
+
+fn main() {
+    let mut heads = [[0u8; 17]; 32];
+    let mut rows = [[0u8; 24]; 128];
+    let mut log = [0u8; CAPACITY];
+    let mut s = started(&mut heads, &mut rows, &mut log);
     let mut line = [0u8; KEPT];
     let mut output = [0u8; ROOM];
     let mut turns = u64::MAX;
@@ -196,11 +236,19 @@ fn main() {
         let got = libc::read(STDIN_FILENO, &mut block);
         let n = io::count(got, &block);
         if n == 0 {
-            let last = finish(s, &mut log, &line, &mut output);
+            let last = finish(s, &mut heads, &mut rows, &mut log, &line, &mut output);
             flush(last, &output);
             return;
         }
-        let next = take_block(s, &block[..n], &mut log, &mut line, &mut output);
+        let next = take_block(
+            s,
+            &mut heads,
+            &mut rows,
+            &block[..n],
+            &mut log,
+            &mut line,
+            &mut output,
+        );
         s = next;
         if s.writable {} else {
             return;

@@ -2,13 +2,16 @@
 
 ghost use Prim.Native.Nat.{ℕ};
 ghost use mathlib.Core.Path.{_≡_};
-ghost use mathlib.Core.List.{List, []};
+ghost use mathlib.Core.List.{[]};
+ghost use lib.ListN.{length};
 ghost use Rattle.rules.specs.declared.Event.{Event};
 ghost use Rattle.rules.specs.declared.Order.{Order};
+ghost use Rattle.rules.specs.RefusalNumber.{unreadableLine};
 ghost use Rattle.rules.specs.Signals.{rowOf};
 ghost use Rattle.rules.specs.Sound.{soundOf};
 ghost use Rattle.rules.specs.Trace.{obeyed, tracedOf};
-ghost use Rattle.trace_run.specs.Promises.{Answers, Obeys};
+ghost use Rattle.rows.specs.Memory.{tableIn};
+ghost use Rattle.trace_run.specs.Promises.{Holds, Answers, Obeys, ObeysIn};
 use rules::Event;
 use rules::Name;
 use rules::Order;
@@ -25,6 +28,25 @@ pub struct Obeyed {
     pub size: usize,
 }
 
+// The same, of a table whose transactions and enlistments are in lent memory.
+pub struct Left {
+    pub capacity: u32,
+    pub used: u32,
+    pub sound: bool,
+    pub size: usize,
+}
+
+// A table is put into lent memory, all but its capacity and its used length.
+pub fn put_table(table: Table, heads: &mut [[u8; 17]; 32], rows: &mut [[u8; 24]; 128])
+    requires { ⌜ (length (now heads) ≡ 32) × (length (now rows) ≡ 128) ⌝ }
+    ensures { λ r. ⌜ Holds (now (heads .exit)) (now (rows .exit)) table ⌝ }
+{
+    let transactions = table.transactions;
+    rows::heads_of(transactions, heads);
+    let enlistments = table.enlistments;
+    rows::rows_of(enlistments, rows);
+}
+
 fn no_signals() -> Signals
     ensures { λ r. ⌜ r ≡ rowOf [] ⌝ }
 {
@@ -39,86 +61,120 @@ fn no_signals() -> Signals
 }
 
 fn answered(
-    table: Table,
+    capacity: u32,
+    used: u32,
     sound: bool,
     why: u8,
     signals: Signals,
     buffer: &mut [u8; OUTPUT],
-) -> Obeyed
-    ensures { λ r. ⌜ Answers table sound why signals (now (buffer .entry)) r (now (buffer .exit)) ⌝ }
+) -> Left
+    ensures { λ r. ⌜ Answers capacity used sound why signals (now (buffer .entry)) r (now (buffer .exit)) ⌝ }
 {
-    let size = trace_line::write_line(why, table.used, signals, buffer);
-    Obeyed {
-        table: table,
+    let size = trace_line::write_line(why, used, signals, buffer);
+    Left {
+        capacity: capacity,
+        used: used,
         sound: sound,
         size: size,
     }
 }
 
-fn obey_unreadable(table: Table, sound: bool, buffer: &mut [u8; OUTPUT]) -> Obeyed
-    ensures { λ r. ⌜ ((e : Event) (log : List ℕ) → Obeys (obeyed Order.Unreadable e table log) (now (buffer .entry)) r log (now (buffer .exit))) × (r .sound ≡ sound) ⌝ }
+fn obey_unreadable(capacity: u32, used: u32, sound: bool, buffer: &mut [u8; OUTPUT]) -> Left
+    ensures { λ r. ⌜ Answers capacity used sound unreadableLine (rowOf []) (now (buffer .entry)) r (now (buffer .exit)) ⌝ }
 {
     let none = no_signals();
-    answered(table, sound, refusal::UNREADABLE_LINE, none, buffer)
+    answered(
+        capacity,
+        used,
+        sound,
+        refusal::UNREADABLE_LINE,
+        none,
+        buffer,
+    )
 }
 
 // The one line after which the test is made anew; it is rare.
-fn obey_restart(table: Table, log: &mut [u8], buffer: &mut [u8; OUTPUT]) -> Obeyed
-    ensures { λ r. ⌜ ((e : Event) → Obeys (obeyed Order.Restart e table (now (log .entry))) (now (buffer .entry)) r (now (log .exit)) (now (buffer .exit))) × (r .sound ≡ soundOf (r .table)) ⌝ }
+fn obey_restart(
+    heads: &mut [[u8; 17]; 32],
+    rows: &mut [[u8; 24]; 128],
+    used: u32,
+    log: &mut [u8],
+    buffer: &mut [u8; OUTPUT],
+) -> Left
+    requires { ⌜ (length (now heads) ≡ 32) × (length (now rows) ≡ 128) ⌝ }
+    ensures { λ r. ⌜ ((e : Event) (capacity : ℕ) → ObeysIn (obeyed Order.Restart e (tableIn (now (heads .entry)) (now (rows .entry)) capacity used) (now (log .entry))) (now (buffer .entry)) r (now (heads .exit)) (now (rows .exit)) (now (log .exit)) (now (buffer .exit))) × (r .sound ≡ soundOf (tableIn (now (heads .exit)) (now (rows .exit)) (r .capacity) (r .used))) ⌝ }
 {
-    let r = restart::restart(log, table.used as usize);
+    let r = restart::restart(log, used as usize);
     let after = r.table;
     let sound = step::is_sound(after);
+    put_table(after, heads, rows);
     let none = no_signals();
-    answered(after, sound, r.refusal, none, buffer)
+    answered(after.capacity, after.used, sound, r.refusal, none, buffer)
 }
 
 fn obey_step(
     event: Event,
-    table: Table,
+    heads: &mut [[u8; 17]; 32],
+    rows: &mut [[u8; 24]; 128],
+    capacity: u32,
+    used: u32,
     sound: bool,
     log: &mut [u8],
     buffer: &mut [u8; OUTPUT],
-) -> Obeyed
-    requires { ⌜ sound ≡ soundOf table ⌝ }
-    ensures { λ r. ⌜ Obeys (obeyed Order.Step event table (now (log .entry))) (now (buffer .entry)) r (now (log .exit)) (now (buffer .exit)) × (r .sound ≡ sound) ⌝ }
+) -> Left
+    requires { ⌜ (length (now heads) ≡ 32) × (length (now rows) ≡ 128) × (sound ≡ soundOf (tableIn (now heads) (now rows) capacity used)) ⌝ }
+    ensures { λ r. ⌜ ObeysIn (obeyed Order.Step event (tableIn (now (heads .entry)) (now (rows .entry)) capacity used) (now (log .entry))) (now (buffer .entry)) r (now (heads .exit)) (now (rows .exit)) (now (log .exit)) (now (buffer .exit)) × (r .sound ≡ sound) ⌝ }
 {
-    let s = step::step_known(table, event, log, sound);
-    let after = s.table;
-    let signals = s.signals;
-    // Not by `answered`, which would have the table copied once more.
-    let size = trace_line::write_line(s.refusal, after.used, signals, buffer);
-    Obeyed {
-        table: after,
-        sound: sound,
-        size: size,
-    }
+    let a = step::step_in(heads, rows, capacity, used, sound, event, log);
+    let signals = a.signals;
+    answered(capacity, a.used, sound, a.refusal, signals, buffer)
 }
 
 // For a caller that knows whether its table is sound, and is told it of the next.
-pub fn obey_known(
+pub fn obey_in(
     line: &[u8],
-    table: Table,
+    heads: &mut [[u8; 17]; 32],
+    rows: &mut [[u8; 24]; 128],
+    capacity: u32,
+    used: u32,
     sound: bool,
     log: &mut [u8],
     buffer: &mut [u8; OUTPUT],
-) -> Obeyed
-    requires { ⌜ sound ≡ soundOf table ⌝ }
-    ensures { λ r. ⌜ Obeys (tracedOf (now (line .entry)) table (now (log .entry))) (now (buffer .entry)) r (now (log .exit)) (now (buffer .exit)) × (r .sound ≡ soundOf (r .table)) ⌝ }
+) -> Left
+    requires { ⌜ (length (now heads) ≡ 32) × (length (now rows) ≡ 128) × (sound ≡ soundOf (tableIn (now heads) (now rows) capacity used)) ⌝ }
+    ensures { λ r. ⌜ ObeysIn (tracedOf (now (line .entry)) (tableIn (now (heads .entry)) (now (rows .entry)) capacity used) (now (log .entry))) (now (buffer .entry)) r (now (heads .exit)) (now (rows .exit)) (now (log .exit)) (now (buffer .exit)) × (r .sound ≡ soundOf (tableIn (now (heads .exit)) (now (rows .exit)) (r .capacity) (r .used))) ⌝ }
 {
     let command = trace_line::read_line(line);
     let order = command.order;
     let event = command.event;
     match order {
-        Order::Unreadable => obey_unreadable(table, sound, buffer),
-        Order::Restart => obey_restart(table, log, buffer),
-        Order::Step => obey_step(event, table, sound, log, buffer),
+        Order::Unreadable => obey_unreadable(capacity, used, sound, buffer),
+        Order::Restart => obey_restart(heads, rows, used, log, buffer),
+        Order::Step => obey_step(event, heads, rows, capacity, used, sound, log, buffer),
     }
 }
 
 pub fn obey(line: &[u8], table: Table, log: &mut [u8], buffer: &mut [u8; OUTPUT]) -> Obeyed
     ensures { λ r. ⌜ Obeys (tracedOf (now (line .entry)) table (now (log .entry))) (now (buffer .entry)) r (now (log .exit)) (now (buffer .exit)) × (r .sound ≡ soundOf (r .table)) ⌝ }
 {
+    let mut heads = [[0u8; 17]; 32];
+    let mut rows = [[0u8; 24]; 128];
+    put_table(table, &mut heads, &mut rows);
     let sound = step::is_sound(table);
-    obey_known(line, table, sound, log, buffer)
+    let left = obey_in(
+        line,
+        &mut heads,
+        &mut rows,
+        table.capacity,
+        table.used,
+        sound,
+        log,
+        buffer,
+    );
+    let after = rows::table_in(&heads, &rows, left.capacity, left.used);
+    Obeyed {
+        table: after,
+        sound: left.sound,
+        size: left.size,
+    }
 }

@@ -1,4 +1,4 @@
--- What `obey_known` leaves in the buffer is stored behind what waits.
+-- What `obey_in` leaves in the buffer is stored behind what waits.
 use native.Mathlib.Omega.{arith}
 use mathlib.Core.Path.{refl}
 use lib.ListN.{length-take}
@@ -13,9 +13,9 @@ answer-spec =
     (tie.spec
     (λ c. simp length-take (omega arith))
     (λ c κs. search needs)
-    (λ c. omega (arith, output-long (c .before .before .before .obey-known .ensures .0) (search needs)))
-    (λ c. simp length-take (omega (arith, output-long (c .before .before .before .before .obey-known .ensures .0) (search needs))))
-    (λ c κs. simp length-take (omega (arith, c .before .before .before .before .obey-known .ensures .0 .within)))
+    (λ c. omega (arith, output-long (c .before .before .before .obey-in .ensures .0) (search needs)))
+    (λ c. simp length-take (omega (arith, output-long (c .before .before .before .before .obey-in .ensures .0) (search needs))))
+    (λ c κs. simp length-take (omega (arith, c .before .before .before .before .obey-in .ensures .0 .within)))
     (λ c. search needs)
     (λ c. search needs)
-    (λ c. answer-stands (c .before .before .before .before .before .before .before .before .before .before .before .before .before .before .before .before .pre) refl (c .before .before .before .before .before .before .before .before .obey-known .ensures .0) (c .before .before .before .before .before .before .before .before .obey-known .ensures .1) (c .before .before .before .put .ensures)))
+    (λ c. answer-stands (c .before .before .before .before .before .before .before .before .before .before .before .before .before .before .before .before .pre) refl (c .before .before .before .before .before .before .before .obey-in .ensures .0) (c .before .before .before .before .before .before .before .obey-in .ensures .1) (c .before .before .put .ensures)))

@@ -1,5 +1,4 @@
 -- The program is safe and ends. Between two blocks it stands where the bytes that it has read lead from its start, and nothing waits.
-use mathlib.Core.Path.{refl, ap}
 use borrow.Author.Needs.{needs}
 use Rattle.trace.proofs.Reached.{Reached, reached-start, reached-again}
 use Rattle.trace.proofs.main.Statement.{statement}
@@ -9,14 +8,11 @@ pub main-spec : {M : Type 1} → statement M
 main-spec =
     tie.close
     (tie.spec
-    (λ sound log₀ s₀ line₀ output₀ turns₀ log s line output turns. Reached s log line output)
-    (λ sound log₀ s₀ line₀ output₀ turns₀ log s line output turns. turns)
+    (λ heads₀ rows₀ log₀ s₀ line₀ output₀ turns₀ heads rows log s line output turns. Reached s heads rows log line output)
+    (λ heads₀ rows₀ log₀ s₀ line₀ output₀ turns₀ heads rows log s line output turns. turns)
     (λ c. search needs)
     (λ c κs. search needs)
-    (λ c κs. search needs)
-    (λ c.
-    let r = c .before .before .before .restart .ensures in
-    reached-start (search needs) refl refl (search needs) (ap (λ x. x .table) (r .0)) (r .1))
+    (λ c. reached-start (c .before .started .ensures) (search needs) (search needs) (search needs))
     (λ c. search needs)
     (λ c κs. search needs)
     (λ c. search needs)
@@ -37,6 +33,6 @@ main-spec =
     (λ c. search needs)
     (λ c κs. search needs)
     (λ c. search needs)
-    (λ c. reached-again (c .before .before .before .before .before .before .before .before .before .before .before .before .before .before .before .before .before .loop .inv) (c .before .before .before .before .take-block .ensures) (c .if2 .taken) (search needs))
+    (λ c. reached-again (c .before .before .before .before .before .before .before .before .before .before .before .before .before .before .before .before .before .before .before .loop .inv) (c .before .before .before .before .take-block .ensures) (c .if2 .taken) (search needs))
     (λ c. search needs)
     (λ c. search needs))

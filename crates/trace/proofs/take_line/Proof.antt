@@ -18,15 +18,6 @@ take-line-spec =
     (λ c. search needs)
     (λ c. search needs)
     (λ c. search needs)
-    (λ c.
-    let t = c .before .before .before .before .before .before .before .before in
-    let k = t .before .before .before in
-    let f = k .before .before .before in
-    let s = f .before .before .before .before .before in
-    line-taken (s .pre .0) (s .pre .1) (f .find .ensures .0) (k .keep .ensures) (t .if1 .taken) (c .before .before .before .before .answer .ensures))
+    (λ c. let s = c .before .before .before .before .before .before .before .before .before .before .before .before .before .before .before .before .before .before .before .before .before in line-taken (s .pre .0) (s .pre .1) (c .before .before .before .before .before .before .before .before .before .before .before .before .before .before .before .before .find .ensures .0) (c .before .before .before .before .before .before .before .before .before .before .before .before .before .keep .ensures) (c .before .before .before .before .before .before .before .before .before .before .if1 .taken) (c .before .before .before .before .answer .ensures))
     (λ c. search needs)
-    (λ c.
-    let k = c .before .before .before in
-    let f = k .before .before .before in
-    let s = f .before .before .before .before .before in
-    rest-taken (s .pre .0) (s .pre .1) (f .find .ensures .0) (k .keep .ensures) (c .if1 .left) (f .find .ensures .1)))
+    (λ c. let s = c .before .before .before .before .before .before .before .before .before .before .before in rest-taken (s .pre .0) (s .pre .1) (c .before .before .before .before .before .before .find .ensures .0) (c .before .before .before .keep .ensures) (c .if1 .left) (c .before .before .before .before .before .before .find .ensures .1)))

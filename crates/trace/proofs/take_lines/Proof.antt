@@ -11,17 +11,17 @@ pub take-lines-spec : {M : Type 1} → statement M
 take-lines-spec =
     tie.close
     (tie.spec
-    (λ block log₀ line₀ output₀ s₀ log line output s. Taking block log₀ line₀ output₀ s₀ log line output s)
-    (λ block log₀ line₀ output₀ s₀ log line output s. length block - s .taken)
+    (λ heads₀ rows₀ block log₀ line₀ output₀ s₀ heads rows log line output s. Taking heads₀ rows₀ block log₀ line₀ output₀ s₀ heads rows log line output s)
+    (λ heads₀ rows₀ block log₀ line₀ output₀ s₀ heads rows log line output s. length block - s .taken)
     (λ c. let s = c .before .before .before .before in taking-start (s .pre .0 .fits) (s .pre .1))
     (λ c. search needs)
     (λ c. search needs)
     (λ c. search needs)
     (λ c. search needs)
     (λ c. taking-done (c .before .before .before .before .loop .inv) (λ h e. omega (arith, c .before .before .before .before .before .before .before .before .before .pre .0 .free, c .if2 .taken)))
-    (λ c κs. let l = c .before .before .before .before .before .before .before in (record { fits = l .loop .inv .fits; free = c .before .before .before .if2 .left }, l .loop .inv .within))
-    (λ c. omega (arith, c .before .before .before .before .before .before .take-line .ensures .some (c .before .before .before .before .before .before .before .before .before .before .before .before .if1 .taken)))
-    (λ c. taking-again (c .before .before .before .before .before .before .before .before .before .before .before .before .before .before .loop .inv) (c .before .before .before .before .before .before .before .before .before .before .before .before .if1 .taken) (search needs) (c .before .before .before .before .before .before .take-line .ensures))
+    (λ c κs. let l = c .before .before .before .before .before .before .before .before .before in (record { fits = l .loop .inv .fits; free = c .before .before .before .before .before .if2 .left }, l .loop .inv .within))
+    (λ c. omega (arith, c .before .before .before .before .before .before .take-line .ensures .some (c .before .before .before .before .before .before .before .before .before .before .before .before .before .before .if1 .taken)))
+    (λ c. taking-again (c .before .before .before .before .before .before .before .before .before .before .before .before .before .before .before .before .loop .inv) (c .before .before .before .before .before .before .before .before .before .before .before .before .before .before .if1 .taken) (search needs) (c .before .before .before .before .before .before .take-line .ensures))
     (λ c. search needs)
     (λ c. search needs)
     (λ c. search needs)
