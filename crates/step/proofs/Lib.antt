@@ -1,5 +1,3 @@
 pub mod Laws
-pub mod Done
 pub mod Determined
-pub mod Capacity
-pub mod InMemory
+pub mod Done
