@@ -270,12 +270,12 @@ fn less(n: u8, so: bool) -> u8
 }
 
 // With as much of the log as the other open ones leave, of so many in all.
-fn with_room(h: Holding, capacity: u32, open: u8) -> Holding
-    requires { ⌜ recordSize * open ≤ capacity ⌝ }
-    ensures { λ r. ⌜ r ≡ record { enlistments = h .enlistments; transaction = h .transaction; place = h .place; capacity = capacity - recordSize * (open - oneIf (isOpen (h .transaction .state) (held (h .place) (alone h)))); used = h .used } ⌝ }
+fn with_room(h: Holding, capacity: u32, opened: u8) -> Holding
+    requires { ⌜ recordSize * opened ≤ capacity ⌝ }
+    ensures { λ r. ⌜ r ≡ record { enlistments = h .enlistments; transaction = h .transaction; place = h .place; capacity = capacity - recordSize * (opened - oneIf (isOpen (h .transaction .state) (held (h .place) (alone h)))); used = h .used } ⌝ }
 {
     let own = holdings::is_open(h);
-    let others = less(open, own);
+    let others = less(opened, own);
     let mut g = h;
     g.capacity = capacity - sizes::RECORD * (others as u32);
     g
@@ -298,8 +298,8 @@ fn about_one(
     let fine = why == refusal::ACCEPTED;
     if fine {
         let h = rows::take_out(heads, rows, e.holder, 0, used);
-        let open = rows::open_count(heads, rows);
-        let g = with_room(h, capacity, open);
+        let opened = rows::open_count(heads, rows);
+        let g = with_room(h, capacity, opened);
         let done = accepting::reacted(n, act, e.kind, e.state, g, log);
         return put_back(heads, rows, done);
     }
