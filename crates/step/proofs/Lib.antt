@@ -1,3 +1,4 @@
 pub mod Laws
 pub mod Done
+pub mod Entering
 pub mod Determined
