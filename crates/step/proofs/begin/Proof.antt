@@ -19,6 +19,16 @@ begin-spec =
     (λ c κs. search needs)
     (λ c κs. c .before .before .before .before .before .before .before .pre .long-heads)
     (λ c κs. search needs)
-    (λ c log. done-does (c .before .before .before .before .before .before .before .before .before .args .heads .now) (c .before .before .before .before .before .before .before .before .before .args .rows .now) (c .before .before .before .before .before .before .before .before .before .args .capacity) (c .before .before .before .before .before .before .before .before .before .args .used) (beginChecks (tableIn (c .before .before .before .before .before .before .before .before .before .args .heads .now) (c .before .before .before .before .before .before .before .before .before .args .rows .now) (c .before .before .before .before .before .before .before .before .before .args .capacity) (c .before .before .before .before .before .before .before .before .before .args .used)) (c .before .before .before .before .before .before .before .before .before .args .id)) (beginOf (c .before .before .before .before .before .before .before .before .before .args .id) (tableIn (c .before .before .before .before .before .before .before .before .before .args .heads .now) (c .before .before .before .before .before .before .before .before .before .args .rows .now) (c .before .before .before .before .before .before .before .before .before .args .capacity) (c .before .before .before .before .before .before .before .before .before .args .used)) log) log (c .before .before .before .before .begin .result) (c .before .before .before .before .begin .ensures (tableIn (c .before .before .before .before .before .before .before .before .before .args .heads .now) (c .before .before .before .before .before .before .before .before .before .args .rows .now) (c .before .before .before .before .before .before .before .before .before .args .capacity) (c .before .before .before .before .before .before .before .before .before .args .used)) (c .before .before .before .before .before .before .before .place-named .ensures) (c .before .before .before .before .before .place-free .ensures)) (c .before .before .before .if1 .taken) (c .before .put-transaction .ensures .0) (c .before .before .before .before .before .before .before .before .before .pre .long-rows) (begun-in (c .before .before .before .before .before .before .before .before .before .args .heads .now) (c .before .before .before .before .before .before .before .before .before .args .rows .now) (c .before .before .before .before .before .before .before .before .before .args .capacity) (c .before .before .before .before .before .before .before .before .before .args .used) (c .before .before .before .before .before .before .before .before .before .args .id) log (c .before .before .before .before .before .place-free .ensures) (c .before .put-transaction .ensures .1)) refl refl (c .silent .ensures))
+    (λ c log. let e = c .before .before .before .before in
+    let s = e .before .before .before .before .before in
+    let a = s .args in
+    let tb = tableIn (a .heads .now) (a .rows .now) (a .capacity) (a .used) in
+    let q = e .begin .ensures tb (e .before .before .before .place-named .ensures) (e .before .place-free .ensures) in
+    done-does (a .heads .now) (a .rows .now) (a .capacity) (a .used) (beginChecks tb (a .id)) (beginOf (a .id) tb log) log (e .begin .result) q (c .before .before .before .if1 .taken) (c .before .put-transaction .ensures .0) (s .pre .long-rows) (begun-in (a .heads .now) (a .rows .now) (a .capacity) (a .used) (a .id) log (e .before .place-free .ensures) (c .before .put-transaction .ensures .1)) refl refl (c .silent .ensures))
     (λ c κs. search needs)
-    (λ c log. silent-does (c .before .before .before .before .before .before .before .args .heads .now) (c .before .before .before .before .before .before .before .args .rows .now) (c .before .before .before .before .before .before .before .args .capacity) (c .before .before .before .before .before .before .before .args .used) (beginChecks (tableIn (c .before .before .before .before .before .before .before .args .heads .now) (c .before .before .before .before .before .before .before .args .rows .now) (c .before .before .before .before .before .before .before .args .capacity) (c .before .before .before .before .before .before .before .args .used)) (c .before .before .before .before .before .before .before .args .id)) (beginOf (c .before .before .before .before .before .before .before .args .id) (tableIn (c .before .before .before .before .before .before .before .args .heads .now) (c .before .before .before .before .before .before .before .args .rows .now) (c .before .before .before .before .before .before .before .args .capacity) (c .before .before .before .before .before .before .before .args .used)) log) log (c .before .before .begin .result) (c .before .before .before .before .before .before .before .pre .long-heads) (c .before .before .before .before .before .before .before .pre .long-rows) (c .before .before .begin .ensures (tableIn (c .before .before .before .before .before .before .before .args .heads .now) (c .before .before .before .before .before .before .before .args .rows .now) (c .before .before .before .before .before .before .before .args .capacity) (c .before .before .before .before .before .before .before .args .used)) (c .before .before .before .before .before .place-named .ensures) (c .before .before .before .place-free .ensures)) (c .before .if1 .left) (c .silent2 .ensures)))
+    (λ c log. let e = c .before .before in
+    let s = e .before .before .before .before .before in
+    let a = s .args in
+    let tb = tableIn (a .heads .now) (a .rows .now) (a .capacity) (a .used) in
+    let q = e .begin .ensures tb (e .before .before .before .place-named .ensures) (e .before .place-free .ensures) in
+    silent-does (a .heads .now) (a .rows .now) (a .capacity) (a .used) (beginChecks tb (a .id)) (beginOf (a .id) tb log) log (e .begin .result) (s .pre .long-heads) (s .pre .long-rows) q (c .before .if1 .left) (c .silent2 .ensures)))

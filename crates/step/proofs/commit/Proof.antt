@@ -19,10 +19,35 @@ commit-spec =
     (λ c κs. c .before .before .pre .0 .long-heads)
     (λ c κs. c .before .before .before .before .pre .0 .long-heads)
     (λ c κs. search needs)
-    (λ c κs. (c .before .before .before .before .before .before .before .before .before .pre .0 .long-heads, c .before .before .before .before .before .before .before .before .before .pre .0 .long-rows, (named-takes (c .before .before .before .before .before .before .before .before .before .args .heads .now) (c .before .before .before .before .before .before .before .before .before .args .rows .now) (c .before .before .before .before .before .before .before .before .before .args .capacity) (c .before .before .before .before .before .before .before .before .before .args .used) (c .before .before .before .before .before .before .before .before .before .args .id) _ (c .before .before .before .before .before .before .before .before .before .pre .0) (c .before .before .before .before .before .before .place-named .ensures) (c .before .before .before .commit .ensures (tableIn (c .before .before .before .before .before .before .before .before .before .args .heads .now) (c .before .before .before .before .before .before .before .before .before .args .rows .now) (c .before .before .before .before .before .before .before .before .before .args .capacity) (c .before .before .before .before .before .before .before .before .before .args .used)) (c .before .before .before .before .before .before .place-named .ensures) (ap (λ x. x .state) (c .before .before .before .before .transaction-at .ensures))) (c .before .before .if1 .taken)) .few))
-    (λ c κs. takes-ready (c .before .before .before .before .before .before .before .before .before .before .before .args .heads .now) (c .before .before .before .before .before .before .before .before .before .before .before .args .rows .now) (c .before .before .before .before .before .before .before .before .before .before .before .args .capacity) (c .before .before .before .before .before .before .before .before .before .before .before .args .used) (c .before .before .before .before .before .before .before .before .before .before .before .args .id) (named-takes (c .before .before .before .before .before .before .before .before .before .before .before .args .heads .now) (c .before .before .before .before .before .before .before .before .before .before .before .args .rows .now) (c .before .before .before .before .before .before .before .before .before .before .before .args .capacity) (c .before .before .before .before .before .before .before .before .before .before .before .args .used) (c .before .before .before .before .before .before .before .before .before .before .before .args .id) _ (c .before .before .before .before .before .before .before .before .before .before .before .pre .0) (c .before .before .before .before .before .before .before .before .place-named .ensures) (c .before .before .before .before .before .commit .ensures (tableIn (c .before .before .before .before .before .before .before .before .before .before .before .args .heads .now) (c .before .before .before .before .before .before .before .before .before .before .before .args .rows .now) (c .before .before .before .before .before .before .before .before .before .before .before .args .capacity) (c .before .before .before .before .before .before .before .before .before .before .before .args .used)) (c .before .before .before .before .before .before .before .before .place-named .ensures) (ap (λ x. x .state) (c .before .before .before .before .before .before .transaction-at .ensures))) (c .before .before .before .before .if1 .taken)) (c .before .take-out .ensures (c .before .before .before .before .before .before .before .before .before .before .before .args .capacity)))
-    (λ c κs. (c .before .before .before .before .before .before .before .before .before .before .before .before .before .before .before .before .pre .0 .long-heads, c .before .before .before .before .before .before .before .before .before .before .before .before .before .before .before .before .pre .0 .long-rows, takes-few (c .before .before .before .before .before .before .before .before .before .before .before .before .before .before .before .before .args .heads .now) (c .before .before .before .before .before .before .before .before .before .before .before .before .before .before .before .before .args .rows .now) (c .before .before .before .before .before .before .before .before .before .before .before .before .before .before .before .before .args .capacity) (c .before .before .before .before .before .before .before .before .before .before .before .before .before .before .before .before .args .used) (c .before .before .before .before .before .before .before .before .before .before .before .before .before .before .before .before .args .id) (named-takes (c .before .before .before .before .before .before .before .before .before .before .before .before .before .before .before .before .args .heads .now) (c .before .before .before .before .before .before .before .before .before .before .before .before .before .before .before .before .args .rows .now) (c .before .before .before .before .before .before .before .before .before .before .before .before .before .before .before .before .args .capacity) (c .before .before .before .before .before .before .before .before .before .before .before .before .before .before .before .before .args .used) (c .before .before .before .before .before .before .before .before .before .before .before .before .before .before .before .before .args .id) _ (c .before .before .before .before .before .before .before .before .before .before .before .before .before .before .before .before .pre .0) (c .before .before .before .before .before .before .before .before .before .before .before .before .before .place-named .ensures) (c .before .before .before .before .before .before .before .before .before .before .commit .ensures (tableIn (c .before .before .before .before .before .before .before .before .before .before .before .before .before .before .before .before .args .heads .now) (c .before .before .before .before .before .before .before .before .before .before .before .before .before .before .before .before .args .rows .now) (c .before .before .before .before .before .before .before .before .before .before .before .before .before .before .before .before .args .capacity) (c .before .before .before .before .before .before .before .before .before .before .before .before .before .before .before .before .args .used)) (c .before .before .before .before .before .before .before .before .before .before .before .before .before .place-named .ensures) (ap (λ x. x .state) (c .before .before .before .before .before .before .before .before .before .before .before .transaction-at .ensures))) (c .before .before .before .before .before .before .before .before .before .if1 .taken)) (c .before .before .before .before .before .before .take-out .ensures (c .before .before .before .before .before .before .before .before .before .before .before .before .before .before .before .before .args .capacity)) (c .before .before .before .before .commit2 .result) (c .before .before .before .before .commit2 .ensures .place)))
+    (λ c κs. let e = c .before .before .before in
+    let s = e .before .before .before .before .before .before in
+    let a = s .args in
+    let tb = tableIn (a .heads .now) (a .rows .now) (a .capacity) (a .used) in
+    let q = e .commit .ensures tb (e .before .before .before .place-named .ensures) (ap (λ x. x .state) (e .before .transaction-at .ensures)) in
+    (s .pre .0 .long-heads, s .pre .0 .long-rows, (named-takes (a .heads .now) (a .rows .now) (a .capacity) (a .used) (a .id) _ (s .pre .0) (e .before .before .before .place-named .ensures) q (c .before .before .if1 .taken)) .few))
+    (λ c κs. let e = c .before .before .before .before .before in
+    let s = e .before .before .before .before .before .before in
+    let a = s .args in
+    let tb = tableIn (a .heads .now) (a .rows .now) (a .capacity) (a .used) in
+    let q = e .commit .ensures tb (e .before .before .before .place-named .ensures) (ap (λ x. x .state) (e .before .transaction-at .ensures)) in
+    takes-ready (a .heads .now) (a .rows .now) (a .capacity) (a .used) (a .id) (named-takes (a .heads .now) (a .rows .now) (a .capacity) (a .used) (a .id) _ (s .pre .0) (e .before .before .before .place-named .ensures) q (c .before .before .before .before .if1 .taken)) (c .before .take-out .ensures (a .capacity)))
+    (λ c κs. let e = c .before .before .before .before .before .before .before .before .before .before in
+    let s = e .before .before .before .before .before .before in
+    let a = s .args in
+    let tb = tableIn (a .heads .now) (a .rows .now) (a .capacity) (a .used) in
+    let q = e .commit .ensures tb (e .before .before .before .place-named .ensures) (ap (λ x. x .state) (e .before .transaction-at .ensures)) in
+    (s .pre .0 .long-heads, s .pre .0 .long-rows, takes-few (a .heads .now) (a .rows .now) (a .capacity) (a .used) (a .id) (named-takes (a .heads .now) (a .rows .now) (a .capacity) (a .used) (a .id) _ (s .pre .0) (e .before .before .before .place-named .ensures) q (c .before .before .before .before .before .before .before .before .before .if1 .taken)) (c .before .before .before .before .before .before .take-out .ensures (a .capacity)) (c .before .before .before .before .commit2 .result) (c .before .before .before .before .commit2 .ensures .place)))
     (λ c. search needs)
-    (λ c. takes-does (c .before .before .before .before .before .before .before .before .before .before .before .before .before .before .before .before .before .args .heads .now) (c .before .before .before .before .before .before .before .before .before .before .before .before .before .before .before .before .before .args .rows .now) (c .before .before .before .before .before .before .before .before .before .before .before .before .before .before .before .before .before .args .capacity) (c .before .before .before .before .before .before .before .before .before .before .before .before .before .before .before .before .before .args .used) (c .before .before .before .before .before .before .before .before .before .before .before .before .before .before .before .before .before .args .id) (named-takes (c .before .before .before .before .before .before .before .before .before .before .before .before .before .before .before .before .before .args .heads .now) (c .before .before .before .before .before .before .before .before .before .before .before .before .before .before .before .before .before .args .rows .now) (c .before .before .before .before .before .before .before .before .before .before .before .before .before .before .before .before .before .args .capacity) (c .before .before .before .before .before .before .before .before .before .before .before .before .before .before .before .before .before .args .used) (c .before .before .before .before .before .before .before .before .before .before .before .before .before .before .before .before .before .args .id) _ (c .before .before .before .before .before .before .before .before .before .before .before .before .before .before .before .before .before .pre .0) (c .before .before .before .before .before .before .before .before .before .before .before .before .before .before .place-named .ensures) (c .before .before .before .before .before .before .before .before .before .before .before .commit .ensures (tableIn (c .before .before .before .before .before .before .before .before .before .before .before .before .before .before .before .before .before .args .heads .now) (c .before .before .before .before .before .before .before .before .before .before .before .before .before .before .before .before .before .args .rows .now) (c .before .before .before .before .before .before .before .before .before .before .before .before .before .before .before .before .before .args .capacity) (c .before .before .before .before .before .before .before .before .before .before .before .before .before .before .before .before .before .args .used)) (c .before .before .before .before .before .before .before .before .before .before .before .before .before .before .place-named .ensures) (ap (λ x. x .state) (c .before .before .before .before .before .before .before .before .before .before .before .before .transaction-at .ensures))) (c .before .before .before .before .before .before .before .before .before .before .if1 .taken)) (c .before .before .before .before .before .before .before .take-out .ensures (c .before .before .before .before .before .before .before .before .before .before .before .before .before .before .before .before .before .args .capacity)) _ (λ p t. commitOf p t (c .before .before .before .before .before .before .before .before .before .before .before .before .before .before .before .before .before .args .log .now)) (c .before .before .before .before .before .before .before .before .before .before .before .before .before .before .before .before .before .args .log .now) (c .before .before .before .before .before .before .before .before .before .before .before .before .before .before .before .before .before .pre .0 .long-heads) (c .before .before .before .before .before .before .before .before .before .before .before .before .before .before .place-named .ensures) (c .before .before .before .before .before .before .before .before .before .before .before .commit .ensures (tableIn (c .before .before .before .before .before .before .before .before .before .before .before .before .before .before .before .before .before .args .heads .now) (c .before .before .before .before .before .before .before .before .before .before .before .before .before .before .before .before .before .args .rows .now) (c .before .before .before .before .before .before .before .before .before .before .before .before .before .before .before .before .before .args .capacity) (c .before .before .before .before .before .before .before .before .before .before .before .before .before .before .before .before .before .args .used)) (c .before .before .before .before .before .before .before .before .before .before .before .before .before .before .place-named .ensures) (ap (λ x. x .state) (c .before .before .before .before .before .before .before .before .before .before .before .before .transaction-at .ensures))) (c .before .before .before .before .before .before .before .before .before .before .if1 .taken) (λ there t f. commit-through (passes-through (tableIn (c .before .before .before .before .before .before .before .before .before .before .before .before .before .before .before .before .before .args .heads .now) (c .before .before .before .before .before .before .before .before .before .before .before .before .before .before .before .before .before .args .rows .now) (c .before .before .before .before .before .before .before .before .before .before .before .before .before .before .before .before .before .args .capacity) (c .before .before .before .before .before .before .before .before .before .before .before .before .before .before .before .before .before .args .used)) _ there) t (c .before .before .before .before .before .before .before .before .before .before .before .before .before .before .before .before .before .args .log .now) f) (c .before .before .before .before .before .commit2 .ensures) (c .put-back .ensures))
+    (λ c. let e = c .before .before .before .before .before .before .before .before .before .before .before in
+    let s = e .before .before .before .before .before .before in
+    let a = s .args in
+    let tb = tableIn (a .heads .now) (a .rows .now) (a .capacity) (a .used) in
+    let q = e .commit .ensures tb (e .before .before .before .place-named .ensures) (ap (λ x. x .state) (e .before .transaction-at .ensures)) in
+    takes-does (a .heads .now) (a .rows .now) (a .capacity) (a .used) (a .id) (named-takes (a .heads .now) (a .rows .now) (a .capacity) (a .used) (a .id) _ (s .pre .0) (e .before .before .before .place-named .ensures) q (c .before .before .before .before .before .before .before .before .before .before .if1 .taken)) (c .before .before .before .before .before .before .before .take-out .ensures (a .capacity)) _ (λ p t. commitOf p t (a .log .now)) (a .log .now) (s .pre .0 .long-heads) (e .before .before .before .place-named .ensures) q (c .before .before .before .before .before .before .before .before .before .before .if1 .taken) (λ there t f. commit-through (passes-through tb _ there) t (a .log .now) f) (c .before .before .before .before .before .commit2 .ensures) (c .put-back .ensures))
     (λ c κs. search needs)
-    (λ c. silent-does (c .before .before .before .before .before .before .before .before .args .heads .now) (c .before .before .before .before .before .before .before .before .args .rows .now) (c .before .before .before .before .before .before .before .before .args .capacity) (c .before .before .before .before .before .before .before .before .args .used) (commitChecks (tableIn (c .before .before .before .before .before .before .before .before .args .heads .now) (c .before .before .before .before .before .before .before .before .args .rows .now) (c .before .before .before .before .before .before .before .before .args .capacity) (c .before .before .before .before .before .before .before .before .args .used)) (c .before .before .before .before .before .before .before .before .args .id)) (commitOf (placeNamed (c .before .before .before .before .before .before .before .before .args .id) (tableIn (c .before .before .before .before .before .before .before .before .args .heads .now) (c .before .before .before .before .before .before .before .before .args .rows .now) (c .before .before .before .before .before .before .before .before .args .capacity) (c .before .before .before .before .before .before .before .before .args .used))) (tableIn (c .before .before .before .before .before .before .before .before .args .heads .now) (c .before .before .before .before .before .before .before .before .args .rows .now) (c .before .before .before .before .before .before .before .before .args .capacity) (c .before .before .before .before .before .before .before .before .args .used)) (c .before .before .before .before .before .before .before .before .args .log .now)) (c .before .before .before .before .before .before .before .before .args .log .now) (c .before .before .commit .result) (c .before .before .before .before .before .before .before .before .pre .0 .long-heads) (c .before .before .before .before .before .before .before .before .pre .0 .long-rows) (c .before .before .commit .ensures (tableIn (c .before .before .before .before .before .before .before .before .args .heads .now) (c .before .before .before .before .before .before .before .before .args .rows .now) (c .before .before .before .before .before .before .before .before .args .capacity) (c .before .before .before .before .before .before .before .before .args .used)) (c .before .before .before .before .before .place-named .ensures) (ap (λ x. x .state) (c .before .before .before .transaction-at .ensures))) (c .before .if1 .left) (c .silent .ensures)))
+    (λ c. let e = c .before .before in
+    let s = e .before .before .before .before .before .before in
+    let a = s .args in
+    let tb = tableIn (a .heads .now) (a .rows .now) (a .capacity) (a .used) in
+    let q = e .commit .ensures tb (e .before .before .before .place-named .ensures) (ap (λ x. x .state) (e .before .transaction-at .ensures)) in
+    silent-does (a .heads .now) (a .rows .now) (a .capacity) (a .used) (commitChecks tb (a .id)) (commitOf (placeNamed (a .id) tb) tb (a .log .now)) (a .log .now) (e .commit .result) (s .pre .0 .long-heads) (s .pre .0 .long-rows) q (c .before .if1 .left) (c .silent .ensures)))

@@ -28,6 +28,20 @@ enlist-spec =
     (λ c κs. search needs)
     (λ c κs. c .before .before .before .before .before .before .before .before .before .before .before .before .pre .long-rows)
     (λ c κs. c .before .before .before .before .before .before .before .before .before .before .before .before .before .before .pre .long-rows)
-    (λ c log. done-does (c .before .before .before .before .before .before .before .before .before .before .before .before .before .before .before .before .args .heads .now) (c .before .before .before .before .before .before .before .before .before .before .before .before .before .before .before .before .args .rows .now) (c .before .before .before .before .before .before .before .before .before .before .before .before .before .before .before .before .args .capacity) (c .before .before .before .before .before .before .before .before .before .before .before .before .before .before .before .before .args .used) (enlistChecks (tableIn (c .before .before .before .before .before .before .before .before .before .before .before .before .before .before .before .before .args .heads .now) (c .before .before .before .before .before .before .before .before .before .before .before .before .before .before .before .before .args .rows .now) (c .before .before .before .before .before .before .before .before .before .before .before .before .before .before .before .before .args .capacity) (c .before .before .before .before .before .before .before .before .before .before .before .before .before .before .before .before .args .used)) (c .before .before .before .before .before .before .before .before .before .before .before .before .before .before .before .before .args .id) (c .before .before .before .before .before .before .before .before .before .before .before .before .before .before .before .before .args .rm) (c .before .before .before .before .before .before .before .before .before .before .before .before .before .before .before .before .args .n) (kindOf (c .before .before .before .before .before .before .before .before .before .before .before .before .before .before .before .before .args .kind))) (enlistOf (placeNamed (c .before .before .before .before .before .before .before .before .before .before .before .before .before .before .before .before .args .id) (tableIn (c .before .before .before .before .before .before .before .before .before .before .before .before .before .before .before .before .args .heads .now) (c .before .before .before .before .before .before .before .before .before .before .before .before .before .before .before .before .args .rows .now) (c .before .before .before .before .before .before .before .before .before .before .before .before .before .before .before .before .args .capacity) (c .before .before .before .before .before .before .before .before .before .before .before .before .before .before .before .before .args .used))) (c .before .before .before .before .before .before .before .before .before .before .before .before .before .before .before .before .args .n) (c .before .before .before .before .before .before .before .before .before .before .before .before .before .before .before .before .args .rm) (c .before .before .before .before .before .before .before .before .before .before .before .before .before .before .before .before .args .kind) (c .before .before .before .before .before .before .before .before .before .before .before .before .before .before .before .before .args .mark) (tableIn (c .before .before .before .before .before .before .before .before .before .before .before .before .before .before .before .before .args .heads .now) (c .before .before .before .before .before .before .before .before .before .before .before .before .before .before .before .before .args .rows .now) (c .before .before .before .before .before .before .before .before .before .before .before .before .before .before .before .before .args .capacity) (c .before .before .before .before .before .before .before .before .before .before .before .before .before .before .before .before .args .used)) log) log (c .before .before .before .before .before .before .before .before .enlist .result) (c .before .before .before .before .before .before .before .before .enlist .ensures (tableIn (c .before .before .before .before .before .before .before .before .before .before .before .before .before .before .before .before .args .heads .now) (c .before .before .before .before .before .before .before .before .before .before .before .before .before .before .before .before .args .rows .now) (c .before .before .before .before .before .before .before .before .before .before .before .before .before .before .before .before .args .capacity) (c .before .before .before .before .before .before .before .before .before .before .before .before .before .before .before .before .args .used)) (kindOf (c .before .before .before .before .before .before .before .before .before .before .before .before .before .before .before .before .args .kind)) (c .before .before .before .before .before .before .before .before .before .before .before .before .before .before .before .place-named .ensures) (ap (λ x. x .state) (c .before .before .before .before .before .before .before .before .before .before .before .before .before .before .transaction-at .ensures)) (λ z. c .before .before .before .before .before .before .before .before .before .before .before .is-already-held .ensures (c .before .before .before .before .before .before .before .before .before .before .before .before .before .before .before .before .args .heads .now) (c .before .before .before .before .before .before .before .before .before .before .before .before .before .before .before .before .args .capacity) (c .before .before .before .before .before .before .before .before .before .before .before .before .before .before .before .before .args .used) z ∙ ap (heldAlready (tableIn (c .before .before .before .before .before .before .before .before .before .before .before .before .before .before .before .before .args .heads .now) (c .before .before .before .before .before .before .before .before .before .before .before .before .before .before .before .before .args .rows .now) (c .before .before .before .before .before .before .before .before .before .before .before .before .before .before .before .before .args .capacity) (c .before .before .before .before .before .before .before .before .before .before .before .before .before .before .before .before .args .used)) (c .before .before .before .before .before .before .before .before .before .before .before .before .before .before .before .place-named .result) (c .before .before .before .before .before .before .before .before .before .before .before .before .before .before .before .before .args .rm) (c .before .before .before .before .before .before .before .before .before .before .before .before .before .before .before .before .args .n)) (c .before .before .before .before .before .before .before .before .before .before .before .before .before .kind-of .ensures)) (c .before .before .before .before .before .before .before .before .before .is-full .ensures (c .before .before .before .before .before .before .before .before .before .before .before .before .before .before .before .before .args .heads .now) (c .before .before .before .before .before .before .before .before .before .before .before .before .before .before .before .before .args .capacity) (c .before .before .before .before .before .before .before .before .before .before .before .before .before .before .before .before .args .used))) (c .before .before .before .before .before .before .before .if1 .taken) (c .before .before .before .before .before .before .before .before .before .before .before .before .before .before .before .before .pre .long-heads) (c .before .put-enlistment .ensures .0) (enlisted-in (c .before .before .before .before .before .before .before .before .before .before .before .before .before .before .before .before .args .heads .now) (c .before .before .before .before .before .before .before .before .before .before .before .before .before .before .before .before .args .rows .now) (c .before .before .before .before .before .before .before .before .before .before .before .before .before .before .before .before .args .capacity) (c .before .before .before .before .before .before .before .before .before .before .before .before .before .before .before .before .args .used) (c .before .before .before .before .before .before .before .before .before .before .before .before .before .before .before .before .args .id) log (c .before .before .before .before .before .before .before .before .before .before .before .before .before .before .before .before .args .n) (c .before .before .before .before .before .before .before .before .before .before .before .before .before .before .before .before .args .rm) (c .before .before .before .before .before .before .before .before .before .before .before .before .before .before .before .before .args .kind) (c .before .before .before .before .before .before .before .before .before .before .before .before .before .before .before .before .args .mark) (c .before .before .before .before .before .before .before .before .before .before .before .before .before .before .before .place-named .ensures) (ap (λ x. x .state) (c .before .before .before .before .before .before .before .before .before .before .before .before .before .before .transaction-at .ensures)) (c .before .before .before .before .before .before .entry .ensures .0) (c .before .before .before .place-vacant .ensures) (c .before .put-enlistment .ensures .1)) (c .before .before .before .before .before .before .entry .ensures .1 ∙ ap (λ s. rowOf (cond (zeroAtOnce (c .before .before .before .before .before .before .before .before .before .before .before .before .before .before .before .before .args .kind) s) (signal name.Zero (c .before .before .before .before .before .before .before .before .before .before .before .before .before .before .before .before .args .n) ∷ []) [])) ((ap (λ x. x .state) (c .before .before .before .before .before .before .before .before .before .before .before .before .before .before .transaction-at .ensures)) ∙ ap (λ p. stateAt p (tableIn (c .before .before .before .before .before .before .before .before .before .before .before .before .before .before .before .before .args .heads .now) (c .before .before .before .before .before .before .before .before .before .before .before .before .before .before .before .before .args .rows .now) (c .before .before .before .before .before .before .before .before .before .before .before .before .before .before .before .before .args .capacity) (c .before .before .before .before .before .before .before .before .before .before .before .before .before .before .before .before .args .used))) (c .before .before .before .before .before .before .before .before .before .before .before .before .before .before .before .place-named .ensures))) refl refl)
+    (λ c log. let e = c .before .before .before .before .before .before .before .before in
+    let s = e .before .before .before .before .before .before .before .before in
+    let a = s .args in
+    let tb = tableIn (a .heads .now) (a .rows .now) (a .capacity) (a .used) in
+    let named = e .before .before .before .before .before .before .before .place-named .ensures in
+    let state = ap (λ x. x .state) (e .before .before .before .before .before .before .transaction-at .ensures) in
+    let q = e .enlist .ensures tb (kindOf (a .kind)) named state (λ z. e .before .before .before .is-already-held .ensures (a .heads .now) (a .capacity) (a .used) z ∙ ap (heldAlready tb (e .before .before .before .before .before .before .before .place-named .result) (a .rm) (a .n)) (e .before .before .before .before .before .kind-of .ensures)) (e .before .is-full .ensures (a .heads .now) (a .capacity) (a .used)) in
+    done-does (a .heads .now) (a .rows .now) (a .capacity) (a .used) (enlistChecks tb (a .id) (a .rm) (a .n) (kindOf (a .kind))) (enlistOf (placeNamed (a .id) tb) (a .n) (a .rm) (a .kind) (a .mark) tb log) log (e .enlist .result) q (c .before .before .before .before .before .before .before .if1 .taken) (s .pre .long-heads) (c .before .put-enlistment .ensures .0) (enlisted-in (a .heads .now) (a .rows .now) (a .capacity) (a .used) (a .id) log (a .n) (a .rm) (a .kind) (a .mark) named state (c .before .before .before .before .before .before .entry .ensures .0) (c .before .before .before .place-vacant .ensures) (c .before .put-enlistment .ensures .1)) (c .before .before .before .before .before .before .entry .ensures .1 ∙ ap (λ j. rowOf (cond (zeroAtOnce (a .kind) j) (signal name.Zero (a .n) ∷ []) [])) (state ∙ ap (λ p. stateAt p tb) named)) refl refl)
     (λ c κs. search needs)
-    (λ c log. silent-does (c .before .before .before .before .before .before .before .before .before .before .args .heads .now) (c .before .before .before .before .before .before .before .before .before .before .args .rows .now) (c .before .before .before .before .before .before .before .before .before .before .args .capacity) (c .before .before .before .before .before .before .before .before .before .before .args .used) (enlistChecks (tableIn (c .before .before .before .before .before .before .before .before .before .before .args .heads .now) (c .before .before .before .before .before .before .before .before .before .before .args .rows .now) (c .before .before .before .before .before .before .before .before .before .before .args .capacity) (c .before .before .before .before .before .before .before .before .before .before .args .used)) (c .before .before .before .before .before .before .before .before .before .before .args .id) (c .before .before .before .before .before .before .before .before .before .before .args .rm) (c .before .before .before .before .before .before .before .before .before .before .args .n) (kindOf (c .before .before .before .before .before .before .before .before .before .before .args .kind))) (enlistOf (placeNamed (c .before .before .before .before .before .before .before .before .before .before .args .id) (tableIn (c .before .before .before .before .before .before .before .before .before .before .args .heads .now) (c .before .before .before .before .before .before .before .before .before .before .args .rows .now) (c .before .before .before .before .before .before .before .before .before .before .args .capacity) (c .before .before .before .before .before .before .before .before .before .before .args .used))) (c .before .before .before .before .before .before .before .before .before .before .args .n) (c .before .before .before .before .before .before .before .before .before .before .args .rm) (c .before .before .before .before .before .before .before .before .before .before .args .kind) (c .before .before .before .before .before .before .before .before .before .before .args .mark) (tableIn (c .before .before .before .before .before .before .before .before .before .before .args .heads .now) (c .before .before .before .before .before .before .before .before .before .before .args .rows .now) (c .before .before .before .before .before .before .before .before .before .before .args .capacity) (c .before .before .before .before .before .before .before .before .before .before .args .used)) log) log (c .before .before .enlist .result) (c .before .before .before .before .before .before .before .before .before .before .pre .long-heads) (c .before .before .before .before .before .before .before .before .before .before .pre .long-rows) (c .before .before .enlist .ensures (tableIn (c .before .before .before .before .before .before .before .before .before .before .args .heads .now) (c .before .before .before .before .before .before .before .before .before .before .args .rows .now) (c .before .before .before .before .before .before .before .before .before .before .args .capacity) (c .before .before .before .before .before .before .before .before .before .before .args .used)) (kindOf (c .before .before .before .before .before .before .before .before .before .before .args .kind)) (c .before .before .before .before .before .before .before .before .before .place-named .ensures) (ap (λ x. x .state) (c .before .before .before .before .before .before .before .before .transaction-at .ensures)) (λ z. c .before .before .before .before .before .is-already-held .ensures (c .before .before .before .before .before .before .before .before .before .before .args .heads .now) (c .before .before .before .before .before .before .before .before .before .before .args .capacity) (c .before .before .before .before .before .before .before .before .before .before .args .used) z ∙ ap (heldAlready (tableIn (c .before .before .before .before .before .before .before .before .before .before .args .heads .now) (c .before .before .before .before .before .before .before .before .before .before .args .rows .now) (c .before .before .before .before .before .before .before .before .before .before .args .capacity) (c .before .before .before .before .before .before .before .before .before .before .args .used)) (c .before .before .before .before .before .before .before .before .before .place-named .result) (c .before .before .before .before .before .before .before .before .before .before .args .rm) (c .before .before .before .before .before .before .before .before .before .before .args .n)) (c .before .before .before .before .before .before .before .kind-of .ensures)) (c .before .before .before .is-full .ensures (c .before .before .before .before .before .before .before .before .before .before .args .heads .now) (c .before .before .before .before .before .before .before .before .before .before .args .capacity) (c .before .before .before .before .before .before .before .before .before .before .args .used))) (c .before .if1 .left) (c .silent .ensures)))
+    (λ c log. let e = c .before .before in
+    let s = e .before .before .before .before .before .before .before .before in
+    let a = s .args in
+    let tb = tableIn (a .heads .now) (a .rows .now) (a .capacity) (a .used) in
+    let named = e .before .before .before .before .before .before .before .place-named .ensures in
+    let state = ap (λ x. x .state) (e .before .before .before .before .before .before .transaction-at .ensures) in
+    let q = e .enlist .ensures tb (kindOf (a .kind)) named state (λ z. e .before .before .before .is-already-held .ensures (a .heads .now) (a .capacity) (a .used) z ∙ ap (heldAlready tb (e .before .before .before .before .before .before .before .place-named .result) (a .rm) (a .n)) (e .before .before .before .before .before .kind-of .ensures)) (e .before .is-full .ensures (a .heads .now) (a .capacity) (a .used)) in
+    silent-does (a .heads .now) (a .rows .now) (a .capacity) (a .used) (enlistChecks tb (a .id) (a .rm) (a .n) (kindOf (a .kind))) (enlistOf (placeNamed (a .id) tb) (a .n) (a .rm) (a .kind) (a .mark) tb log) log (e .enlist .result) (s .pre .long-heads) (s .pre .long-rows) q (c .before .if1 .left) (c .silent .ensures)))
