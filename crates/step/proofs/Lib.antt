@@ -1,4 +1,4 @@
+pub mod Entering
 pub mod Laws
 pub mod Done
-pub mod Entering
 pub mod Determined
