@@ -1,4 +1,4 @@
--- Of a sound table, the transaction that an accepted event names can be taken out: it is live, so it stands at a place and holds few. What the
+-- Of a sound table, a live transaction can be taken out: it stands at a place and holds few. What the
 -- event makes of it alone, put back, is what it makes of the table.
 use Prim.Native.Nat.{ℕ, _≤_}
 use native.Mathlib.Omega.{arith}
@@ -85,28 +85,23 @@ module _ (heads rows : List (List ℕ)) (capacity used : ℕ) (id : Id) (log : L
       is : e ≡ newEnlistment (placeNamed id before) (stateAt (placeNamed id before) before) n rm kind mark
       is = new ∙ ap (λ t. newEnlistment p t n rm kind mark) state ∙ ap (λ k. newEnlistment k (stateAt k before) n rm kind mark) named
 
--- ── a transaction that is named ─────────────────────────────────────────────────────────────────────────────────
+-- ── a transaction that is taken out ─────────────────────────────────────────────────────────────────────────────
 
--- the transaction at place p can be taken out
+-- the transaction at place p can be
 pub record Takes (heads rows : List (List ℕ)) (used p : ℕ) : Type 0 where
   pub low : 1 ≤ p
   pub high : p ≤ transactionPlaces
   pub few : length (filter (heldBy p) (map enlistmentIn rows)) ≤ heldMost
   pub small : used ≤ largestCapacity
 
-module _ (heads rows : List (List ℕ)) (capacity used : ℕ) (id : Id) where
+module _ (heads rows : List (List ℕ)) (capacity used : ℕ) where
   abbrev tb : Table
   tb = tableIn heads rows capacity used
 
-  -- b asks for its state
-  abbrev pub namedChecks : Bool → List Check
-  namedChecks b = check (isZero id) refusal.zeroNamed ∷ check (eqb (placeNamed id tb) 0) refusal.notLive ∷ check b refusal.transactionState ∷ []
-
-  pub named-takes : {p why : ℕ} (b : Bool) → Fine heads rows capacity used → p ≡ placeNamed id tb → why ≡ firstOf (namedChecks b) → eqb why refusal.accepted ≡ true → Takes heads rows used p
-  unfolding held all
-  named-takes {p} {why} b f named q z =
+  pub live-takes : {p : ℕ} → Fine heads rows capacity used → Live (transactionAt p tb) → Takes heads rows used p
+  unfolding held
+  live-takes {p} f live =
       let s : Sound tb = sound-sentences tb (f .sound) in
-      let live : Live (transactionAt p tb) = subst (λ k. Live (transactionAt k tb)) (sym named) (named-live id tb (eqb-false _ 0 (passes-at (namedChecks b) 1 refl (sym q ∙ eqb-true why refusal.accepted z)))) in
       let there : IsPlace (map transactionIn heads) p = live-place p tb live in
       record {
         low = there .low;
@@ -115,22 +110,34 @@ module _ (heads rows : List (List ℕ)) (capacity used : ℕ) (id : Id) where
         small = omega (arith, s .room, s .capacity-small);
       }
 
-  module _ {p : ℕ} {h : Holding} (k : Takes heads rows used p) (out : h ≡ taken p 0 tb) where
+  -- of Commit and Rollback; b asks for its state
+  pub named-takes : {p why : ℕ} (id : Id) (b : Bool) → Fine heads rows capacity used → p ≡ placeNamed id tb
+      → why ≡ firstOf (check (isZero id) refusal.zeroNamed ∷ check (eqb (placeNamed id tb) 0) refusal.notLive ∷ check b refusal.transactionState ∷ [])
+      → eqb why refusal.accepted ≡ true → Takes heads rows used p
+  unfolding all
+  named-takes {p} {why} id b f named q z =
+      let live : Live (transactionAt (placeNamed id tb) tb) = named-live id tb (eqb-false _ 0 (passes-at _ 1 refl (sym q ∙ eqb-true why refusal.accepted z))) in
+      live-takes f (subst (λ k. Live (transactionAt k tb)) (sym named) live)
+
+  module _ {p room : ℕ} {h : Holding} (k : Takes heads rows used p) (out : h ≡ taken p room tb) where
     pub takes-ready : Ready h
     takes-ready = subst Ready (sym out) ((k .low, k .high), omega (arith, k .small))
 
     pub takes-few : (d : Accepted) → d .holding .place ≡ h .place → count (heldBy (d .holding .place)) (map enlistmentIn rows) ≤ 16
     takes-few d q = subst (λ j. count (heldBy j) (map enlistmentIn rows) ≤ 16) (sym (q ∙ ap (λ g. g .place) out)) (omega (arith, k .few, count-filter (heldBy p) (map enlistmentIn rows)))
 
+    abbrev own : Table
+    own = alone (taken p room tb)
+
     -- o is the outcome, of a place and a table
-    pub takes-does : (b : Bool) (o : ℕ → Table → Outcome) (log : List ℕ) {why : ℕ} {d : Accepted} {r : Answer} {heads′ rows′ : List (List ℕ)} {after : List ℕ}
-        → length heads ≡ 32 → p ≡ placeNamed id tb → why ≡ firstOf (namedChecks b) → eqb why refusal.accepted ≡ true
-        → (IsPlace (tb .transactions) p → (t : Table) → Fits tb p t → o p (within tb p t) ≡ through (within tb p) (o p t))
+    pub takes-does : (cs : List Check) (o : ℕ → Table → Outcome) (log : List ℕ) {whole : Outcome} {why : ℕ} {d : Accepted} {r : Answer} {heads′ rows′ : List (List ℕ)} {after : List ℕ}
+        → length heads ≡ 32 → whole ≡ o p tb → why ≡ firstOf cs → eqb why refusal.accepted ≡ true
+        → (IsPlace (tb .transactions) p → Fits tb p own → o p (within tb p own) ≡ through (within tb p) (o p own))
         → Gives (h .place) (o (h .place) (alone h)) d after → PutsBack heads rows d r heads′ rows′
-        → Does (namedChecks b) (o (placeNamed id tb) tb) tb log r heads′ rows′ after
+        → Does cs whole tb log r heads′ rows′ after
     unfolding held
-    takes-does b o log {why} {d} {r} {heads′} {rows′} {after} long named q z law g back =
+    takes-does cs o log {whole} {why} {d} {r} {heads′} {rows′} {after} long is q z law g back =
         let there : IsPlace (map transactionIn heads) p = record { low = k .low; high = omega (arith, k .high, long, length-map heads transactionIn) } in
-        put-does heads rows capacity used (namedChecks b) (o p (alone (taken p 0 tb))) (o (placeNamed id tb) tb) log (k .low) (k .high) q z
-        (ap (λ j. o j tb) (sym named) ∙ ap (o p) (sym (taken-back p 0 tb (k .low) (k .high) (k .few))) ∙ law there (alone (taken p 0 tb)) (taken-fits p 0 tb (k .low) (k .high) (k .few)))
+        put-does heads rows capacity used cs (o p own) whole log (k .low) (k .high) q z
+        (is ∙ ap (o p) (sym (taken-back p room tb (k .low) (k .high) (k .few))) ∙ law there (taken-fits p room tb (k .low) (k .high) (k .few)))
         (subst (λ j. Gives (j .place) (o (j .place) (alone j)) d after) out g) back
