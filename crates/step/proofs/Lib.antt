@@ -1,3 +1,4 @@
+pub mod Entering
 pub mod Laws
 pub mod Determined
 pub mod Done

@@ -1,0 +1,18 @@
+-- A place is vacant if and only if one is found.
+use borrow.Author.Needs.{needs}
+use mathlib.Core.List.{map}
+use Rattle.rules.specs.Table.{isVacant, held}
+use Rattle.rows.specs.Memory.{enlistmentIn}
+use Rattle.step.proofs.Entering.{none-place}
+use Rattle.step.proofs.is_full.Statement.{statement}
+use Rattle.step.proofs.is_full.Tie as tie
+
+pub is-full-spec : {M : Type 1} → statement M
+unfolding held
+is-full-spec =
+    tie.close
+    (tie.spec
+    (λ c κs. search needs)
+    (λ c κs. search needs)
+    (λ c κs. search needs)
+    (λ c heads capacity used. rw (none-place isVacant (map enlistmentIn (c .before .before .before .args .rows .now)), ← c .before .before .place-vacant .ensures, ← c .before .count-held .ensures .0) (c .is-full .ensures)))
