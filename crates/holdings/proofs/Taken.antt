@@ -1,8 +1,8 @@
 -- What is taken out of a table fits into it, and put back it leaves the table as it was: the places that are refilled are those that it was taken from.
-use Prim.Native.Nat.{ℕ, zero, suc, _+_, _≤_, _<_}
+use Prim.Native.Nat.{ℕ, zero, suc, _+_, _≤_}
 use native.Mathlib.Omega.{arith}
 use mathlib.Core.Path.{_≡_, refl, sym, _∙_, ap}
-use mathlib.Core.Bool.{true, false}
+use mathlib.Core.Bool.{false}
 use mathlib.Core.List.{List, [], _∷_}
 use lib.ListN.{length, getD, drop}
 use lib.Dec.{eqb}
@@ -11,14 +11,14 @@ use Rattle.lists.specs.Lists.{filter}
 use Rattle.lists.specs.Members.{_∈_, Each}
 use Rattle.lists.specs.Places.{at, changeFrom, changeAt}
 use Rattle.lists.proofs.Tests.{by-test, each-nothing, each-more, count-filter}
-use Rattle.lists.proofs.Places.{IsPlace, length-change}
+use Rattle.lists.proofs.Places.{length-change}
 use Rattle.lists.proofs.Loops.{change-there}
 use Rattle.rules.specs.declared.Enlistment.{Enlistment}
 use Rattle.rules.specs.declared.Table.{Table}
 use Rattle.rules.specs.Sizes.{heldMost, transactionPlaces}
 use Rattle.rules.specs.Table.{noTransaction, noEnlistment, emptyTransactions, transactionAt, heldBy, held}
 use Rattle.holdings.specs.Holdings.{alone}
-use Rattle.holdings.specs.Within.{filled, taken, refill, within}
+use Rattle.holdings.specs.Within.{filled, taken, within}
 use Rattle.holdings.proofs.Laws.{alone-at}
 use Rattle.holdings.proofs.Refill.{length-filled, filled-at, refill-same}
 use Rattle.holdings.proofs.Within.{Fits}

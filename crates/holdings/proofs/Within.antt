@@ -1,20 +1,19 @@
 -- A table into which a transaction and what it holds are put shows of them what they show alone, and a change of them passes through.
-use Prim.Native.Nat.{ℕ, _+_, _≤_, _<_}
+use Prim.Native.Nat.{ℕ, _+_, _≤_}
 use native.Mathlib.Omega.{arith}
 use mathlib.Core.Path.{_≡_, refl, sym, _∙_, ap, subst}
-use mathlib.Core.Bool.{true, false, cond}
-use mathlib.Core.List.{List, map, _++_, append-nil}
+use mathlib.Core.Bool.{false}
+use mathlib.Core.List.{_++_, append-nil}
 use lib.ListN.{length, take, drop, length-map, take-append-drop}
-use borrow.Author.Tests.{ne-eqb}
 use Rattle.lists.specs.Lists.{filter, count}
 use Rattle.lists.specs.Members.{Each}
-use Rattle.lists.specs.Places.{at, changeAt}
-use Rattle.lists.proofs.Tests.{filter-append, filter-none, each-map, count-filter}
+use Rattle.lists.specs.Places.{changeAt}
+use Rattle.lists.proofs.Tests.{filter-append, filter-none, each-map}
 use Rattle.lists.proofs.Places.{IsPlace, at-change-same, length-change}
 use Rattle.rules.specs.declared.Transaction.{Transaction}
 use Rattle.rules.specs.declared.Enlistment.{Enlistment}
 use Rattle.rules.specs.declared.Table.{Table}
-use Rattle.rules.specs.Table.{noTransaction, noEnlistment, transactionAt, heldBy, held, onHeld, changeHeld, changeTransaction, useMore}
+use Rattle.rules.specs.Table.{noTransaction, transactionAt, heldBy, held, onHeld, changeHeld, changeTransaction, useMore}
 use Rattle.rules.proofs.Local.{Through}
 use Rattle.holdings.specs.Within.{refill, within}
 use Rattle.holdings.proofs.Laws.{change-twice}

@@ -1,12 +1,12 @@
 -- A transaction with what it holds is a table of its own, and the rules of one transaction are rules of that table.
-use Prim.Native.Nat.{ℕ, _+_, _≤_}
-use mathlib.Core.List.{List, map}
+use Prim.Native.Nat.{ℕ, _≤_}
+use mathlib.Core.List.{map}
 use Rattle.lists.specs.Places.{changeAt}
 use Rattle.rules.specs.declared.Transaction.{Transaction}
 use Rattle.rules.specs.declared.Enlistment.{Enlistment}
 use Rattle.rules.specs.declared.Table.{Table}
 use Rattle.rules.specs.Sizes.{transactionPlaces}
-use Rattle.rules.specs.Table.{emptyTransactions, noTransaction, inTransactionState, onHeld}
+use Rattle.rules.specs.Table.{emptyTransactions, inTransactionState, onHeld}
 use Rattle.holdings.specs.declared.Holding.{Holding}
 
 -- the table in which the transaction stands at its place, alone

@@ -36,16 +36,6 @@ fn is_undone(e: Enlistment, rm: [u8; 16]) -> bool
     if its { !done } else { false }
 }
 
-fn is_durable_held(e: Enlistment, p: u8, rm: [u8; 16]) -> bool
-    ensures { λ r. ⌜ r ≡ (heldBy p e && isDurableOf rm e) ⌝ }
-{
-    let mine = e.holder == p;
-    if mine {
-        return is_durable_of(e, rm);
-    }
-    false
-}
-
 fn is_undone_held(e: Enlistment, p: u8, rm: [u8; 16]) -> bool
     ensures { λ r. ⌜ r ≡ (heldBy p e && isUndone rm e) ⌝ }
 {
@@ -62,40 +52,6 @@ fn is_elsewhere(e: Enlistment, rm: [u8; 16]) -> bool
     let failed = e.state == enlistment_state::FAILED_TO_NOTIFY;
     let its = is_undone(e, rm);
     if its { !failed } else { false }
-}
-
-// Of one that the transaction at place p holds.
-pub fn place_durable(table: Table, p: u8, rm: [u8; 16]) -> u8
-    ensures { λ r. ⌜ r ≡ placeOf (λ e. heldBy p e && isDurableOf rm e) (table .enlistments) ⌝ }
-{
-    let mut i: u8 = 0;
-    while i < 128 {
-        let k = i as usize;
-        let e = table.enlistments[k];
-        let hit = is_durable_held(e, p, rm);
-        i += 1;
-        if hit {
-            return i;
-        }
-    }
-    0
-}
-
-// The same where it isn't Done.
-pub fn place_undone(table: Table, p: u8, rm: [u8; 16]) -> u8
-    ensures { λ r. ⌜ r ≡ placeOf (λ e. heldBy p e && isUndone rm e) (table .enlistments) ⌝ }
-{
-    let mut i: u8 = 0;
-    while i < 128 {
-        let k = i as usize;
-        let e = table.enlistments[k];
-        let hit = is_undone_held(e, p, rm);
-        i += 1;
-        if hit {
-            return i;
-        }
-    }
-    0
 }
 
 // Of one that isn't Done and stands elsewhere than in Failed-to-notify, whichever transaction holds it.

@@ -2,10 +2,9 @@
 
 ghost use mathlib.Core.Path.{_≡_};
 ghost use mathlib.Core.Bool.{cond};
-ghost use Prim.Native.Nat.{_≤_, _<_};
+ghost use Prim.Native.Nat.{_<_};
 ghost use Rattle.rules.specs.Table.{held, heldBy, freed, inState, onNumber};
 ghost use Rattle.rules.specs.Events.{zeroedOf, hearsAbort, abortedOf, committedOf};
-ghost use Rattle.rules.specs.Sound.{isOpen, openCount};
 ghost use Rattle.passes.specs.Census.{censusOf, moreOf, countedOf, Below};
 ghost use Rattle.passes.specs.Change.{changeOf};
 use rules::Enlistment;
@@ -13,7 +12,6 @@ use rules::Table;
 use rules::enlistment_state;
 use rules::kinds;
 use rules::marks;
-use rules::transaction_state;
 
 // How many a transaction holds, and how many of them are such.
 pub struct Census {
@@ -186,32 +184,4 @@ pub fn changed(e: Enlistment, change: Change) -> Enlistment
         Change::Aborted => aborted(e),
         Change::Committed => committed(e),
     }
-}
-
-// Of a transaction in this state.
-pub fn is_open(table: Table, p: u8, state: u8) -> bool
-    ensures { λ r. ⌜ r ≡ isOpen state (held p table) ⌝ }
-{
-    let committing = state == transaction_state::COMMITTING;
-    if committing {
-        let c = count_held(table, p);
-        return c.durable != 0;
-    }
-    false
-}
-
-pub fn open_count(table: Table) -> u8
-    ensures { λ r. ⌜ (r ≡ openCount table) × (r ≤ 32) ⌝ }
-{
-    let mut n: u8 = 0;
-    let mut i: u8 = 32;
-    while 0 < i {
-        let p = i;
-        i -= 1;
-        let k = i as usize;
-        let x = table.transactions[k];
-        let so = is_open(table, p, x.state);
-        n = more(n, so);
-    }
-    n
 }

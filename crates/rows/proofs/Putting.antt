@@ -1,13 +1,13 @@
 -- Place by place the memory comes to mean what is refilled: a place that is not held is left as it is.
 use Prim.Native.Nat.{ℕ, zero, suc, _+_, _≤_, _<_}
 use native.Mathlib.Omega.{arith}
-use mathlib.Core.Path.{_≡_, refl, sym, _∙_, ap}
-use mathlib.Core.Bool.{Bool, true, false}
+use mathlib.Core.Path.{_≡_, refl, _∙_}
+use mathlib.Core.Bool.{true, false}
 use mathlib.Core.List.{List, [], _∷_, map}
 use lib.ListN.{length, getD, set, drop, length-map, length-set, List·getD-map}
 use lib.Seq.{set-getD}
 use Rattle.lists.specs.Lists.{count}
-use Rattle.lists.proofs.Loops.{drop-at, drop-done, Rewritten, rewrite-start, rewrite-again, rewrite-done}
+use Rattle.lists.proofs.Loops.{drop-at, Rewritten, rewrite-start, rewrite-again, rewrite-done}
 use Rattle.rules.specs.declared.Enlistment.{Enlistment}
 use Rattle.rules.specs.Table.{noEnlistment, heldBy}
 use Rattle.holdings.specs.Within.{refillFrom, refill}

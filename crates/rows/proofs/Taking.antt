@@ -9,7 +9,7 @@ use lib.Seq.{take-suc, take-all}
 use Rattle.lists.specs.Lists.{filter}
 use Rattle.lists.proofs.Tests.{filter-append}
 use Rattle.rules.specs.declared.Enlistment.{Enlistment}
-use Rattle.rules.specs.Table.{noEnlistment, heldBy}
+use Rattle.rules.specs.Table.{heldBy}
 use Rattle.holdings.specs.declared.Holding.{Holding}
 use Rattle.holdings.specs.Within.{filled}
 use Rattle.rows.specs.Memory.{enlistmentIn}
