@@ -57,10 +57,6 @@ module _ {A : Type 0} {R : A → A → Type 0} where
       (λ t. rw t (more (λ y m r. apart-head a y (of-filter f xs m .0) r) (apart-filter f xs (apart-rest a))))
       (λ t. rw t (apart-filter f xs (apart-rest a)))
 
-pub apart-as : {A : Type 0} {R S : A → A → Type 0} → ((x y : A) → S x y → R x y) → (xs : List A) → Apart R xs → Apart S xs
-apart-as f [] a = nothing
-apart-as f (x ∷ xs) a = more (λ y m r. apart-head a y m (f x y r)) (apart-as f xs (apart-rest a))
-
 pub apart-map : {A B : Type 0} {R : B → B → Type 0} (g : A → B) (xs : List A) → Apart (λ x y. R (g x) (g y)) xs → Apart R (map g xs)
 apart-map g [] a = nothing
 apart-map {A} {B} {R} g (x ∷ xs) a = more (λ y m r. go y (of-map g xs m) r) (apart-map g xs (apart-rest a))

@@ -7,12 +7,11 @@ use mathlib.Core.Bool.{Bool, true, false, cond, false≢true}
 use mathlib.Core.List.{List, [], _∷_, List·Memᴰ·head, List·Memᴰ·tail, List·Memᴰ·cases-cons, List·Memᴰ·not-nil}
 use lib.ListN.{length, getD, set}
 use lib.Dec.{eqb, leb, ltb}
-use borrow.Author.Tests.{eqb-true, eqb-false, eq-eqb, ne-eqb, lt-leb, leb-true, leb-false, ltb-true, ltb-false}
+use borrow.Author.Tests.{eqb-true, eqb-false, eq-eqb, ne-eqb, leb-true, leb-false, ltb-true, ltb-false}
 use Rattle.lists.specs.Lists.{any, filter, count}
-use Rattle.lists.specs.Members.{_∈_, Each, Apart, nothing, more}
+use Rattle.lists.specs.Members.{_∈_, Each}
 use Rattle.lists.specs.Places.{placeFrom, placeOf, atFrom, at, changeFrom, changeAt, putLowest, eachFrom, eachPlace, placesFrom, placesWhere}
-use Rattle.lists.proofs.Tests.{by-test, by-either, no-clash, and-true, true-and, false-or, is-true, is-false, some-any, each-nothing, each-more, each-head, each-rest}
-use Rattle.lists.proofs.Sorting.{Sorted, sorted-end, sorted-more}
+use Rattle.lists.proofs.Tests.{by-test, by-either, no-clash, and-true, true-and, false-or, is-true, is-false, some-any, each-head, each-rest}
 
 -- p is the number of a place
 pub record IsPlace {A : Type 0} (xs : List A) (p : ℕ) : Type 0 where
@@ -85,11 +84,6 @@ module _ {A : Type 0} (f : A → A) where
   unfolding changeFrom
   change-below k p [] h = refl
   change-below k p (x ∷ xs) h = rw (ne-eqb k p (omega arith)) (ap (λ l. x ∷ l) (change-below (suc k) p xs (omega arith)))
-
-  pub change-beyond : (k p : ℕ) (xs : List A) → k + length xs ≤ p → changeFrom f k p xs ≡ xs
-  unfolding changeFrom
-  change-beyond k p [] h = refl
-  change-beyond k p (x ∷ xs) h = rw (ne-eqb k p (omega arith)) (ap (λ l. x ∷ l) (change-beyond (suc k) p xs (omega arith)))
 
   pub change-from : (k p i : ℕ) (d : A) (xs : List A) → p ≡ k + i → changeFrom f k p xs ≡ set xs i (f (getD xs i d))
   unfolding changeFrom
@@ -278,28 +272,7 @@ module _ {A : Type 0} (f : ℕ → A → Bool) (d : A) where
   pub of-places : {p : ℕ} (xs : List A) → p ∈ placesWhere f xs → IsPlace xs p × (f p (at d p xs) ≡ true)
   of-places {p} xs m = let (l, h, e) = of-places-from 1 p xs m in (record { low = l; high = omega arith }, e)
 
-module _ {A : Type 0} (f : ℕ → A → Bool) where
-  places-above : (k : ℕ) (xs : List A) → Each (λ p. k ≤ p) (placesFrom f k xs)
-  unfolding placesFrom
-  places-above k [] = each-nothing _
-  places-above k (x ∷ xs) =
-      let h : Each (λ p. k ≤ p) (placesFrom f (suc k) xs) = λ p m. omega (arith, places-above (suc k) xs p m) in
-      by-test (f k x) (λ t. rw t (each-more {P = λ p. k ≤ p} (omega arith) h)) (λ t. rw t h)
-
-  -- nothing later is less or equal: strictly ascending
-  pub places-ascend : (k : ℕ) (xs : List A) → Sorted leb (placesFrom f k xs)
-  unfolding placesFrom
-  places-ascend k [] = sorted-end
-  places-ascend k (x ∷ xs) = by-test (f k x)
-      (λ t. rw t (sorted-more (λ p m. lt-leb p k (places-above (suc k) xs p m)) (places-ascend (suc k) xs)))
-      (λ t. rw t (places-ascend (suc k) xs))
-
 pub length-places : {A : Type 0} (f : A → Bool) (k : ℕ) (xs : List A) → length (placesFrom (λ p x. f x) k xs) ≡ count f xs
 unfolding placesFrom count
 length-places f k [] = refl
 length-places f k (x ∷ xs) = by-test (f x) (λ t. rw t (ap suc (length-places f (suc k) xs))) (λ t. rw t (length-places f (suc k) xs))
-
--- numbers that ascend strictly differ
-pub ascending-apart : {ps : List ℕ} → Sorted leb ps → Apart (λ p q. p ≡ q) ps
-ascending-apart sorted-end = nothing
-ascending-apart (sorted-more {x = p} {xs = ps} h s) = more {x = p} {xs = ps} (λ q m e. omega (arith, leb-false q p (h q m), e)) (ascending-apart s)

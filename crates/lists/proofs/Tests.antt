@@ -151,11 +151,6 @@ module _ {A : Type 0} (f : A → Bool) where
   not-all [] = refl
   not-all (x ∷ xs) = by-test (f x) (λ p. rw p (not-all xs)) (λ p. rw p)
 
-  pub not-any : (xs : List A) → not (any f xs) ≡ all (λ x. not (f x)) xs
-  unfolding all any
-  not-any [] = refl
-  not-any (x ∷ xs) = by-test (f x) (λ p. rw p) (λ p. rw p (not-any xs))
-
 -- ── filter, count ───────────────────────────────────────────────────────────────────────────────────────────────
 
 module _ {A : Type 0} (f : A → Bool) where
@@ -281,17 +276,7 @@ module _ {A B : Type 0} (g : A → B) where
   pub each-map : (P : B → Type 0) (xs : List A) → Each (λ x. P (g x)) xs → Each P (map g xs)
   each-map P xs h y m = let (x, i, e) = Memᴰ·of-map g xs m in subst P e (h x i)
 
-  pub all-map : (f : B → Bool) (xs : List A) → all f (map g xs) ≡ all (λ x. f (g x)) xs
-  unfolding all
-  all-map f [] = refl
-  all-map f (x ∷ xs) = rw (all-map f xs)
-
   pub any-map : (f : B → Bool) (xs : List A) → any f (map g xs) ≡ any (λ x. f (g x)) xs
   unfolding any
   any-map f [] = refl
   any-map f (x ∷ xs) = rw (any-map f xs)
-
-  pub count-map : (f : B → Bool) (xs : List A) → count f (map g xs) ≡ count (λ x. f (g x)) xs
-  unfolding count
-  count-map f [] = refl
-  count-map f (x ∷ xs) = rw (count-map f xs)

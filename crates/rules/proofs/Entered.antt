@@ -12,7 +12,7 @@ use Rattle.lists.specs.Lists.{any}
 use Rattle.lists.specs.Members.{_∈_, Each, Some}
 use Rattle.lists.specs.Places.{putLowest}
 use Rattle.lists.proofs.Tests.{by-test, by-either, no-clash, true-and, and-true, and-false, none-each, each-nothing}
-use Rattle.lists.proofs.Places.{IsPlace, IsFirst, at-member, first-place, length-put, place-first, place-none, of-put, put-keeps}
+use Rattle.lists.proofs.Places.{IsPlace, IsFirst, at-member, place-first, place-none, of-put, put-keeps}
 use Rattle.rules.specs.declared.Transaction.{Transaction}
 use Rattle.rules.specs.declared.Enlistment.{Enlistment}
 use Rattle.rules.specs.declared.Table.{Table}
@@ -30,9 +30,9 @@ use Rattle.rules.specs.Table.{noTransaction, isFree, isVacant, isNamed, 
 use Rattle.rules.specs.Sound.{isOpen, In, PhaseZero, Volatile, Durable, HoldsWell, Live, Held, Identifier, Number, Sound}
 use Rattle.rules.specs.Events.{beginOf, kindOf, newEnlistment, enlistOf}
 use Rattle.rules.proofs.Frames.{of-held, in-held, named-is, named-found}
-use Rattle.rules.proofs.Identifiers.{equal-same, same-refl}
+use Rattle.rules.proofs.Identifiers.{equal-same}
 use Rattle.rules.proofs.Kept.{sound-kept, live-true, true-live, live-place, live-some}
-use Rattle.rules.proofs.Put.{freePlace, at-new, at-others, new-holds-nothing, kept-begin, New, kept-enlist}
+use Rattle.rules.proofs.Put.{freePlace, at-new, new-holds-nothing, kept-begin, New, kept-enlist}
 use Rattle.rules.proofs.Only.{only-begin, only-enlist, openAt, room-kept}
 use Rattle.rules.proofs.Parts.{Part}
 use Rattle.rules.proofs.Phases.{Zeroing}
@@ -65,18 +65,6 @@ begin-part t tb log s i n some = record {
 
     new : Each (λ y. Live y → t ≡ y .id .0 → ⊥) (tb .transactions)
     new y m l q = no-clash (isNamed t y) (and-true (live-true y l) (equal-same (y .id .0) t (sym q))) (none-each (isNamed t) (tb .transactions) (place-none (isNamed t) (tb .transactions) n) y m)
-
--- and from then on it stands there
-pub begun-place : (t : Id) (tb : Table) (log : List ℕ) → placeNamed t tb ≡ 0 → any isFree (tb .transactions) ≡ true → placeNamed t (beginOf t tb log .table) ≡ freePlace tb
-unfolding beginOf
-begun-place t tb log n some = first-place (isNamed t) noTransaction (putLowest isFree x (tb .transactions)) (freePlace tb) (record {
-  is-place = record { low = first .is-place .low; high = omega (arith, first .is-place .high, length-put isFree x (tb .transactions)) };
-  passes = ap (isNamed t) (at-new x tb some) ∙ same-refl t;
-  first = λ q l h. ap (isNamed t) (at-others x tb some q (λ c. omega arith)) ∙ not-named q (record { low = l; high = omega (arith, first .is-place .high) });
-})
-  where
-    x : Transaction
-    x = record { id = record { 0 = t }; state = transaction.active }
 
     first : IsFirst isFree noTransaction (tb .transactions) (freePlace tb)
     first = place-first isFree noTransaction (tb .transactions) some

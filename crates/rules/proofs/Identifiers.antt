@@ -80,13 +80,3 @@ less-transitive (x ∷ a) (y ∷ b) (z ∷ c) e g =
 
 pub orders-bytes : Orders lessBytes
 orders-bytes = record { asymmetric = less-asymmetric; transitive = less-transitive }
-
--- of two, one is less or they are the same
-pub neither-less : (a b : List ℕ) → lessBytes a b ≡ false → lessBytes b a ≡ false → sameBytes a b ≡ true
-unfolding lessBytes sameBytes
-neither-less [] [] e g = refl
-neither-less [] (y ∷ b) e g = absurd (true≢false e)
-neither-less (x ∷ a) [] e g = absurd (true≢false g)
-neither-less (x ∷ a) (y ∷ b) e g = by-test (eqb x y)
-    (λ p. rw p (neither-less a b (rw p at e) (rw (eq-eqb y x (sym (eqb-true x y p))) at g)))
-    (λ p. absurd (eqb-false x y p (omega (arith, ltb-false x y (rw p at e), ltb-false y x (rw (ne-eqb y x (λ q. eqb-false x y p (sym q))) at g)))))

@@ -46,7 +46,7 @@ pub record Typed (e : Event) : Type 0 where
 
 -- The transaction at place q is the event's own, t and r being the identifiers that it names.
 abbrev pub IsOwn : Act → Id → Id → Table → ℕ → Type 0
--- the place that it takes, where it stands from then on (Entered.begun-place)
+-- the place that it takes, where it stands from then on
 IsOwn act.Begin t r tb q = q ≡ freePlace tb
 -- the transaction that is named
 IsOwn (act.Enlist n k m) t r tb q = q ≡ placeNamed t tb

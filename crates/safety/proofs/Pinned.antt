@@ -172,7 +172,7 @@ begins-7 (Note.begun t) = sameBytes t (id 7)
 begins-7 (Note.enlisted t n r k) = false
 begins-7 (Note.voted t n r k v) = false
 begins-7 (Note.replied t n r) = false
-begins-7 (Note.acked t n r) = false
+begins-7 (Note.acked t n r k) = false
 begins-7 (Note.reenlisted r) = false
 begins-7 Note.nothing = false
 

@@ -430,18 +430,18 @@ module _ (tb : Table) (log : List ℕ) (n : ℕ) (s : Sound tb) (full : length l
   done-aborting a about st = own-end-aborting tb (event a) log t p (changed (inState enlistment.done)) (touched (inState enlistment.done) (state-mild enlistment.done)) about
       (view-before transaction.aborting st) (state-after (inState enlistment.done) transaction.aborting st) (view-after (inState enlistment.done) transaction.aborting st)
 
-  ack-calm : Calm t (Note.acked t n (me .rm .0))
+  ack-calm : Calm t (Note.acked t n (me .rm .0) (me .kind))
   ack-calm = record { not-enlisted = λ m r k q. no₁ m r k q; not-prepared = λ r q. no₂ r (q .0) (q .1) }
     where
-      no₁ : (m : ℕ) (r : Id) (k : ℕ) → Note.acked t n (me .rm .0) ≡ Note.enlisted t m r k → ⊥
+      no₁ : (m : ℕ) (r : Id) (k : ℕ) → Note.acked t n (me .rm .0) (me .kind) ≡ Note.enlisted t m r k → ⊥
       no₁ m r k q = let z : _≡_ {A = ℕ} 0 1 = cc in omega arith
 
-      no₂ : (r : Id) (m : ℕ) → Note.acked t n (me .rm .0) ≡ Note.voted t m r kind.durable vote.Prepared → ⊥
+      no₂ : (r : Id) (m : ℕ) → Note.acked t n (me .rm .0) (me .kind) ≡ Note.voted t m r kind.durable vote.Prepared → ⊥
       no₂ r m q = let z : _≡_ {A = ℕ} 0 1 = cc in omega arith
 
   own-ack : In enlistment.toldCommit me ⊎ In enlistment.toldAbort me → Own tb (event (act.Ack n)) log t (react (reaction.Becomes enlistment.done then.End) p n tb log)
   unfolding react told
-  own-ack (inl st) = done-committing (act.Ack n) refl (of-commit (stateAt p tb) me (nm .line) (inl st)) ack-calm (λ _. inl (n, refl))
+  own-ack (inl st) = done-committing (act.Ack n) refl (of-commit (stateAt p tb) me (nm .line) (inl st)) ack-calm (λ d. inl (n, ap (Note.acked t n (me .rm .0)) d))
   own-ack (inr st) = done-aborting (act.Ack n) refl (of-abort (stateAt p tb) me (nm .line) st)
 
   -- ── the end of single phase ───────────────────────────────────────────────────────────────────────────────────

@@ -58,7 +58,7 @@ noted (Note.begun t) d = d
 noted (Note.enlisted t n r k) d = t
 noted (Note.voted t n r k v) d = t
 noted (Note.replied t n r) d = d
-noted (Note.acked t n r) d = d
+noted (Note.acked t n r k) d = d
 noted (Note.reenlisted r) d = d
 noted Note.nothing d = d
 

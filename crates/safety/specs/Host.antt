@@ -34,9 +34,9 @@ pub record Host : Type 1 where
 abbrev pub Prepares : Id → Id → Note → Type 0
 Prepares t r x = (n : ℕ) × (x ≡ Note.voted t n r kind.durable vote.Prepared)
 
--- "its acknowledgement there or a later finished re-enlistment is accepted"
+-- "its acknowledgement there or a later finished re-enlistment is accepted": of its durable enlistment, as its vote is
 abbrev pub Closes : Id → Id → Note → Type 0
-Closes t r x = ((n : ℕ) × (x ≡ Note.acked t n r)) ⊎ (x ≡ Note.reenlisted r)
+Closes t r x = ((n : ℕ) × (x ≡ Note.acked t n r kind.durable)) ⊎ (x ≡ Note.reenlisted r)
 
 -- "only after its accepted durable prepared vote there, and before its acknowledgement there or a later finished re-enlistment"
 pub data MayAsk (t r : Id) : List Note → Type 0 where

@@ -29,8 +29,8 @@ pub data Note : Type 0 where
   voted : Id → ℕ → Id → ℕ → Vote → Note
   -- to single: transaction, number
   replied : Id → ℕ → Reply → Note
-  -- transaction, number, resource manager
-  acked : Id → ℕ → Id → Note
+  -- transaction, number, resource manager, kind
+  acked : Id → ℕ → Id → ℕ → Note
   -- a resource manager has finished its re-enlistment
   reenlisted : Id → Note
   -- any other accepted step, and every refused one
@@ -49,7 +49,7 @@ told (act.ZeroDone n) t r tb = Note.nothing
 told (act.Vote n v) t r tb = Note.voted (ownerOf n tb) n (numbered n tb .rm .0) (numbered n tb .kind) v
 told act.Rollback t r tb = Note.nothing
 told (act.Reply n a) t r tb = Note.replied (ownerOf n tb) n a
-told (act.Ack n) t r tb = Note.acked (ownerOf n tb) n (numbered n tb .rm .0)
+told (act.Ack n) t r tb = Note.acked (ownerOf n tb) n (numbered n tb .rm .0) (numbered n tb .kind)
 told (act.Lost n) t r tb = Note.nothing
 told act.Ask t r tb = Note.nothing
 told act.Reenlisted t r tb = Note.reenlisted r

@@ -3,7 +3,6 @@
 ghost use Prim.Native.Nat.{_≤_};
 ghost use lib.ListN.{length};
 use rules::Act;
-use rules::Command;
 use rules::Kind;
 use rules::Mark;
 use rules::Name;
