@@ -2,3 +2,4 @@ pub mod Entering
 pub mod Laws
 pub mod Determined
 pub mod Done
+pub mod Whole
