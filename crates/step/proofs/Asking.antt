@@ -1,13 +1,13 @@
 -- Nothing stands at place 0; what a transaction holds in the table it holds alone; and one that isn't live holds nothing.
 use Prim.Native.Nat.{ℕ, _≤_}
 use native.Mathlib.Omega.{arith}
-use mathlib.Core.Path.{_≡_, refl, sym, _∙_, ap, subst}
-use mathlib.Core.Bool.{true, false, not, _&&_}
-use mathlib.Core.List.{List, [], _∷_, map}
+use mathlib.Core.Path.{_≡_, sym, _∙_, ap, subst}
+use mathlib.Core.Bool.{false, not, _&&_}
+use mathlib.Core.List.{List, [], _∷_}
 use lib.Dec.{eqb}
 use lib.ListN.{length, length-map}
 use borrow.Author.Tests.{eqb-true, eqb-false, ne-eqb}
-use Rattle.lists.specs.Lists.{any, none, filter, firstOr}
+use Rattle.lists.specs.Lists.{any, none, firstOr}
 use Rattle.lists.specs.Places.{placeOf}
 use Rattle.lists.proofs.Tests.{by-test, first-passes, first-none, filter-none}
 use Rattle.lists.proofs.Loops.{any-place}
@@ -30,7 +30,7 @@ use Rattle.holdings.specs.Within.{taken}
 use Rattle.holdings.proofs.Within.{passes-through}
 use Rattle.holdings.proofs.Taken.{taken-fits, taken-back}
 use Rattle.reenlisting.specs.Ends.{Few, Ready}
-use Rattle.rows.specs.Memory.{transactionIn, enlistmentIn, tableIn}
+use Rattle.rows.specs.Memory.{transactionIn, tableIn}
 use Rattle.step.specs.StepIn.{Fine}
 use Rattle.step.proofs.Entering.{Takes, live-takes}
 
@@ -55,6 +55,9 @@ module _ (heads rows : List (List ℕ)) (capacity used : ℕ) (id rm : Id) where
 
   pub known-takes : {p : ℕ} → Fine heads rows capacity used → p ≡ placeNamed id tb → eqb p 0 ≡ false → Takes heads rows used p
   known-takes {p} f named t = live-takes heads rows capacity used f (subst (λ k. Live (transactionAt k tb)) (sym named) (named-live id tb (λ z. eqb-false p 0 t (named ∙ z))))
+
+  pub asked-state : {p : ℕ} {h : Holding} → p ≡ placeNamed id tb → h ≡ taken p 0 tb → h .transaction .state ≡ stateAt (placeNamed id tb) tb
+  asked-state named out = ap (λ g. g .transaction .state) out ∙ ap (λ q. stateAt q tb) named
 
   pub asked-lacks : {p : ℕ} {h : Holding} {e : Enlistment} → Takes heads rows used p → length heads ≡ 32 → p ≡ placeNamed id tb → h ≡ taken p 0 tb
       → e ≡ firstOr noEnlistment (isUndone rm) (held (h .place) (alone h)) → eqb (e .holder) 0 ≡ none (isUndone rm) (held (placeNamed id tb) tb)
