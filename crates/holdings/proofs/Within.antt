@@ -54,7 +54,9 @@ module _ (tb : Table) (p : ℕ) (there : IsPlace (tb .transactions) p) where
 
   changed-fits : (f : Enlistment → Enlistment) (t : Table) → Fits tb p t → Fits tb p (changeHeld p f t)
   unfolding changeHeld
-  changed-fits f t h = record { there = h .there; enough = omega (arith, h .enough, length-map (t .enlistments) (onHeld p f));
+  changed-fits f t h = record {
+    there = h .there;
+    enough = omega (arith, h .enough, length-map (t .enlistments) (onHeld p f));
     none = subst (Each (λ e. heldBy p e ≡ false)) (sym (drop-map (onHeld p f) n (t .enlistments))) (each-map (onHeld p f) (λ e. heldBy p e ≡ false) (drop n (t .enlistments)) (λ e m. ap (heldBy p) (unheld f e (h .none e m)) ∙ h .none e m));
   }
     where

@@ -65,9 +65,9 @@ module _ (heads rows : List (List ℕ)) (capacity used : ℕ) (id rm : Id) where
   asked-lacks {p} {h} {e} k long named out first =
       let there : IsPlace (tb .transactions) p = record { low = k .low; high = omega (arith, k .high, long, length-map heads transactionIn) } in
       let same : held (h .place) (alone h) ≡ held p tb =
-          ap (λ g. held (g .place) (alone g)) out
-          ∙ sym (passes-through tb p there .same-held (alone (taken p 0 tb)) (taken-fits p 0 tb (k .low) (k .high) (k .few)))
-          ∙ ap (held p) (taken-back p 0 tb (k .low) (k .high) (k .few)) in
+      ap (λ g. held (g .place) (alone g)) out
+      ∙ sym (passes-through tb p there .same-held (alone (taken p 0 tb)) (taken-fits p 0 tb (k .low) (k .high) (k .few)))
+      ∙ ap (held p) (taken-back p 0 tb (k .low) (k .high) (k .few)) in
       ap (λ f. eqb (f .holder) 0) (first ∙ ap (firstOr noEnlistment (isUndone rm)) same) ∙ first-lacks p rm tb (k .low) ∙ ap (λ q. none (isUndone rm) (held q tb)) named
 
 -- ── Re-enlisted ─────────────────────────────────────────────────────────────────────────────────────────────────

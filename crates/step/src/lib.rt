@@ -396,7 +396,15 @@ pub fn step(table: Table, event: Event, log: &mut [u8]) -> Stepped
     let capacity = table.capacity;
     rows::heads_of(transactions, &mut heads);
     rows::rows_of(enlistments, &mut rows);
-    let answer = step_in(&mut heads, &mut rows, capacity, table.used, sound, event, log);
+    let answer = step_in(
+        &mut heads,
+        &mut rows,
+        capacity,
+        table.used,
+        sound,
+        event,
+        log,
+    );
     let after = rows::table_in(&heads, &rows, capacity, answer.used);
     let signals = answer.signals;
     Stepped {
