@@ -23,7 +23,7 @@ pub struct Transaction {
     pub state: u8,
 }
 
-// The number first and the bytes behind it, so that nothing pads: a table has 128 of these, and is copied often.
+// The number first and the bytes behind it, so that nothing pads: a table has 128 of these, and by value it is copied.
 pub struct Enlistment {
     pub number: u32,
     pub rm: RmId,
@@ -145,7 +145,7 @@ pub enum Reaction {
 
 // ---- Answers. Refusal 0 is done.
 
-// The table and the signals stand as in the answer of an accepted event, so that one is made of the other in place.
+// The table first, so that it is put where it stays.
 pub struct Stepped {
     pub table: Table,
     pub signals: Signals,
