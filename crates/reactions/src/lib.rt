@@ -5,7 +5,7 @@ ghost use mathlib.Core.Bool.{cond, _||_};
 ghost use lib.Dec.{eqb};
 ghost use Rattle.rules.specs.Table.{durableKind};
 ghost use Rattle.rules.specs.Events.{kindOf, markAsked, markOf, toVote, toReply, toLost, reactionOf};
-ghost use Rattle.rules.specs.Refusals.{isRefused};
+ghost use Rattle.rules.specs.Refusals.{reactionRefusal};
 ghost use Rattle.rules.specs.EnlistmentState as enlistment;
 ghost use Rattle.rules.specs.declared.Reaction.the-variants as reaction;
 ghost use Rattle.rules.specs.declared.FollowUp.the-variants as then;
@@ -20,6 +20,7 @@ use rules::Vote;
 use rules::enlistment_state;
 use rules::kinds;
 use rules::marks;
+use rules::refusal;
 
 pub fn kind_of(kind: Kind) -> u8
     ensures { λ r. ⌜ r ≡ kindOf kind ⌝ }
@@ -165,12 +166,12 @@ pub fn reaction(kind: u8, state: u8, act: Act) -> Reaction
     }
 }
 
-pub fn is_refused(r: Reaction) -> bool
-    ensures { λ b. ⌜ b ≡ isRefused r ⌝ }
+pub fn refusal_of(r: Reaction) -> u8
+    ensures { λ n. ⌜ n ≡ reactionRefusal r ⌝ }
 {
     match r {
-        Reaction::Refused => true,
-        Reaction::Freed(_) => false,
-        Reaction::Becomes(_, _) => false,
+        Reaction::Refused => refusal::ENLISTMENT_STATE,
+        Reaction::Freed(_) => refusal::ACCEPTED,
+        Reaction::Becomes(_, _) => refusal::ACCEPTED,
     }
 }

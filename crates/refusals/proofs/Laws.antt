@@ -1,6 +1,6 @@
--- An enlistment with a number that is not zero is held if and only if the one that is found has it.
+-- An enlistment with a number that is not zero is held if and only if the one that is found has it; and a reaction is refused with its own number.
 use Prim.Native.Nat.{ℕ}
-use mathlib.Core.Path.{_≡_, sym}
+use mathlib.Core.Path.{_≡_, refl, sym}
 use mathlib.Core.Bool.{false}
 use mathlib.Core.List.{List, [], _∷_}
 use lib.Dec.{eqb}
@@ -9,7 +9,11 @@ use Rattle.lists.specs.Lists.{any, firstOr}
 use Rattle.lists.proofs.Tests.{by-test}
 use Rattle.rules.specs.declared.Enlistment.{Enlistment}
 use Rattle.rules.specs.declared.Table.{Table}
+use Rattle.rules.specs.declared.Reaction.{Reaction}
+use Rattle.rules.specs.declared.Reaction.the-variants as reaction
 use Rattle.rules.specs.Table.{noEnlistment, isNumbered, numbered}
+use Rattle.rules.specs.RefusalNumber as refusal
+use Rattle.rules.specs.Refusals.{check, firstOf, isRefused, reactionRefusal}
 
 first-has : (n : ℕ) (es : List Enlistment) → eqb n 0 ≡ false → any (isNumbered n) es ≡ isNumbered n (firstOr noEnlistment (isNumbered n) es)
 unfolding any firstOr
@@ -19,3 +23,9 @@ first-has n (e ∷ es) z = by-test (isNumbered n e) (λ t. rw (t, t)) (λ t. rw 
 pub held-has : (n : ℕ) (tb : Table) → eqb n 0 ≡ false → any (isNumbered n) (tb .enlistments) ≡ eqb (numbered n tb .number) n
 unfolding numbered
 held-has n tb z = first-has n (tb .enlistments) z
+
+pub reaction-last : (r : Reaction) → reactionRefusal r ≡ firstOf (check (isRefused r) refusal.enlistmentState ∷ [])
+unfolding firstOf
+reaction-last reaction.Refused = refl
+reaction-last (reaction.Freed f) = refl
+reaction-last (reaction.Becomes s f) = refl

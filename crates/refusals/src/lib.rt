@@ -187,11 +187,7 @@ pub fn about_one(n: u32, act: Act, e: Enlistment) -> u8
         return refusal::NOT_HELD;
     }
     let r = reactions::reaction(e.kind, e.state, act);
-    let refused = reactions::is_refused(r);
-    if refused {
-        return refusal::ENLISTMENT_STATE;
-    }
-    refusal::ACCEPTED
+    reactions::refusal_of(r)
 }
 
 // `lacks`: the transaction has no durable enlistment of the resource manager that isn't Done.

@@ -86,10 +86,14 @@ namesNumber a = isOneOf (event.enlist ∷ []) a || isAboutOne a
 abbrev pub isNumberHeld : ℕ → Table → Bool
 isNumberHeld n tb = any (isNumbered n) (tb .enlistments)
 
+-- a reaction in the paper's numbers: 7, or 0 where it is no refusal
+abbrev pub reactionRefusal : Reaction → ℕ
+reactionRefusal reaction.Refused = refusal.enlistmentState
+reactionRefusal (reaction.Freed f) = refusal.accepted
+reactionRefusal (reaction.Becomes s f) = refusal.accepted
+
 abbrev pub isRefused : Reaction → Bool
-isRefused reaction.Refused = true
-isRefused (reaction.Freed f) = false
-isRefused (reaction.Becomes s f) = false
+isRefused r = not (eqb (reactionRefusal r) refusal.accepted)
 
 module _ (tb : Table) (e : Event) where
   abbrev placeOfEvent : ℕ

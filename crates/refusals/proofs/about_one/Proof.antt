@@ -1,7 +1,8 @@
 -- The checks of the definition, in its order.
 use borrow.Author.Needs.{needs}
+use Rattle.rules.specs.Events.{reactionOf}
 use Rattle.rules.specs.Refusals.{firstOf}
-use Rattle.refusals.proofs.Laws.{held-has}
+use Rattle.refusals.proofs.Laws.{held-has, reaction-last}
 use Rattle.refusals.proofs.about_one.Statement.{statement}
 use Rattle.refusals.proofs.about_one.Tie as tie
 
@@ -14,5 +15,7 @@ about-one-spec =
     (λ c tb p. rw (c .before .before .if1 .left, held-has (c .before .before .before .args .n) tb (c .before .before .if1 .left), ← p, c .if2 .taken))
     (λ c κs. search needs)
     (λ c κs. search needs)
-    (λ c tb p. rw (c .before .before .before .before .before .if1 .left, held-has (c .before .before .before .before .before .before .args .n) tb (c .before .before .before .before .before .if1 .left), ← p, c .before .before .before .if2 .left, ← c .before .before .reaction .ensures, ← c .before .is-refused .ensures, c .if3 .taken))
-    (λ c tb p. rw (c .before .before .before .before .before .if1 .left, held-has (c .before .before .before .before .before .before .args .n) tb (c .before .before .before .before .before .if1 .left), ← p, c .before .before .before .if2 .left, ← c .before .before .reaction .ensures, ← c .before .is-refused .ensures, c .if3 .left)))
+    (λ c tb p. let e = c .before .before in
+    let a = e .before .before .before .args in
+    rw (e .before .before .if1 .left, held-has (a .n) tb (e .before .before .if1 .left), ← p, e .if2 .left, c .refusal-of .ensures, c .before .reaction .ensures)
+    (reaction-last (reactionOf (a .e .kind) (a .e .state) (a .act)))))
