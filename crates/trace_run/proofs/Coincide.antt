@@ -11,12 +11,10 @@ use Rattle.trace_run.specs.declared.Obeyed.{Obeyed}
 use Rattle.trace_run.specs.Promises.{Obeys, ObeysIn}
 
 pub obeyings-coincide : {t : Traced} {before : List ℕ} {o p : Obeyed} {log other after later : List ℕ}
-    → Obeys t before o log after × (o .sound ≡ soundOf (o .table)) → Obeys t before p other later × (p .sound ≡ soundOf (p .table))
+    → Obeys t before o log after → Obeys t before p other later
     → (o ≡ p) × (log ≡ other) × (after ≡ later)
-obeyings-coincide (a, s) (b, t) =
-    let same = a .table ∙ sym (b .table) in
-    let known = s ∙ ap soundOf same ∙ sym t in
-    ((λ i. record { table = same i; sound = known i; size = (a .sized ∙ sym (b .sized)) i }), a .left ∙ sym (b .left), a .bytes ∙ sym (b .bytes))
+obeyings-coincide a b =
+    ((λ i. record { table = (a .table ∙ sym (b .table)) i; size = (a .sized ∙ sym (b .sized)) i }), a .left ∙ sym (b .left), a .bytes ∙ sym (b .bytes))
 
 pub obeyings-in-coincide : {t : Traced} {before : List ℕ} {o p : Left} {heads rows heads′ rows′ : List (List ℕ)} {log other after later : List ℕ}
     → ObeysIn t before o heads rows log after × (o .sound ≡ soundOf (tableIn heads rows (o .capacity) (o .used)))

@@ -74,5 +74,5 @@ step-obeys {tb} {e} {log = log} s a = answers-obey (stepOf tb e log .signals) (s
 
 -- the table is taken out of the memory
 pub taken-obeys : {t : Traced} {before after log : List ℕ} {heads rows : List (List ℕ)} {r : Left} {tb : Table}
-    → ObeysIn t before r heads rows log after → tb ≡ tableIn heads rows (r .capacity) (r .used) → Obeys t before (record { table = tb; sound = r .sound; size = r .size }) log after
+    → ObeysIn t before r heads rows log after → tb ≡ tableIn heads rows (r .capacity) (r .used) → Obeys t before (record { table = tb; size = r .size }) log after
 taken-obeys o e = record { table = e ∙ o .table; left = o .left; sized = o .sized; bytes = o .bytes; within = o .within }

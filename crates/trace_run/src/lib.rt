@@ -13,22 +13,19 @@ ghost use Rattle.rules.specs.Trace.{obeyed, tracedOf};
 ghost use Rattle.rows.specs.Memory.{tableIn};
 ghost use Rattle.trace_run.specs.Promises.{Holds, Answers, Obeys, ObeysIn};
 use rules::Event;
-use rules::Name;
 use rules::Order;
-use rules::Signal;
 use rules::Signals;
 use rules::Table;
 use rules::refusal;
 use trace_line::OUTPUT;
 
-// The table after the line, whether it is sound, and the size of the output line, with its newline.
+// The table after the line, and the size of the output line, with its newline.
 pub struct Obeyed {
     pub table: Table,
-    pub sound: bool,
     pub size: usize,
 }
 
-// The same, of a table whose transactions and enlistments are in lent memory.
+// The same of a table whose transactions and enlistments are in lent memory, and whether it is sound.
 pub struct Left {
     pub capacity: u32,
     pub used: u32,
@@ -45,19 +42,6 @@ pub fn put_table(table: Table, heads: &mut [[u8; 17]; 32], rows: &mut [[u8; 24];
     rows::heads_of(transactions, heads);
     let enlistments = table.enlistments;
     rows::rows_of(enlistments, rows);
-}
-
-fn no_signals() -> Signals
-    ensures { λ r. ⌜ r ≡ rowOf [] ⌝ }
-{
-    let nothing = Signal {
-        name: Name::Nothing,
-        number: 0,
-    };
-    Signals {
-        items: [nothing; 17],
-        count: 0,
-    }
 }
 
 fn answered(
@@ -82,7 +66,7 @@ fn answered(
 fn obey_unreadable(capacity: u32, used: u32, sound: bool, buffer: &mut [u8; OUTPUT]) -> Left
     ensures { λ r. ⌜ Answers capacity used sound unreadableLine (rowOf []) (now (buffer .entry)) r (now (buffer .exit)) ⌝ }
 {
-    let none = no_signals();
+    let none = signals::to_none();
     answered(
         capacity,
         used,
@@ -108,7 +92,7 @@ fn obey_restart(
     let after = r.table;
     let sound = step::is_sound(after);
     put_table(after, heads, rows);
-    let none = no_signals();
+    let none = signals::to_none();
     answered(after.capacity, after.used, sound, r.refusal, none, buffer)
 }
 
@@ -155,7 +139,7 @@ pub fn obey_in(
 }
 
 pub fn obey(line: &[u8], table: Table, log: &mut [u8], buffer: &mut [u8; OUTPUT]) -> Obeyed
-    ensures { λ r. ⌜ Obeys (tracedOf (now (line .entry)) table (now (log .entry))) (now (buffer .entry)) r (now (log .exit)) (now (buffer .exit)) × (r .sound ≡ soundOf (r .table)) ⌝ }
+    ensures { λ r. ⌜ Obeys (tracedOf (now (line .entry)) table (now (log .entry))) (now (buffer .entry)) r (now (log .exit)) (now (buffer .exit)) ⌝ }
 {
     let mut heads = [[0u8; 17]; 32];
     let mut rows = [[0u8; 24]; 128];
@@ -174,7 +158,6 @@ pub fn obey(line: &[u8], table: Table, log: &mut [u8], buffer: &mut [u8; OUTPUT]
     let after = rows::table_in(&heads, &rows, left.capacity, left.used);
     Obeyed {
         table: after,
-        sound: left.sound,
         size: left.size,
     }
 }

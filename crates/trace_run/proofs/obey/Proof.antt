@@ -1,6 +1,4 @@
 -- `trace_run::obey` meets its contract: the table is put into memory, obeyed on there, and taken out again.
-use mathlib.Core.Path.{sym, ap, _∙_}
-use Rattle.rules.specs.Sound.{soundOf}
 use Rattle.trace_run.proofs.Laws.{taken-obeys}
 use borrow.Author.Needs.{needs}
 use Rattle.trace_run.proofs.obey.Statement.{statement}
@@ -17,4 +15,4 @@ obey-spec =
     (λ c. search needs)
     (λ c.
     let o = rw (c .before .before .before .before .before .before .before .before .before .before .before .put-table .ensures .table) at (c .before .before .before .before .before .obey-in .ensures) in
-    (taken-obeys (o .0) (c .table-in .ensures), o .1 ∙ ap soundOf (sym (c .table-in .ensures)))))
+    taken-obeys (o .0) (c .table-in .ensures)))

@@ -17,7 +17,7 @@ obey-restart-spec =
     (λ c κs. search needs)
     (λ c. search needs)
     (λ c.
-    let a = rw (c .before .before .no-signals .ensures) at (c .answered .ensures) in
+    let a = rw (c .before .before .to-none .ensures) at (c .answered .ensures) in
     let p = c .before .before .before .put-table .ensures in (
       (λ e capacity. restart-obeys _ e _ (c .before .before .before .before .before .before .before .before .before .before .restart .ensures) p a),
       rw (a .same-capacity, a .same-used) (a .known ∙ c .before .before .before .before .before .before .is-sound .ensures ∙ ap soundOf (sym (p .table))),
