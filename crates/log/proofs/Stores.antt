@@ -8,64 +8,65 @@ use lib.Seq.{sets, length-sets}
 use Rattle.lists.proofs.Loops.{drop-at, drop-done}
 use Rattle.lists.proofs.Stores.{sets-append}
 use Rattle.rules.specs.declared.Enlistment.{Enlistment}
-use Rattle.rules.specs.Log.{Record, entryBytes, entriesBytes, recordBytes, written}
+use Rattle.rules.specs.Sizes.{identifierSize, recordSize, entrySize}
+use Rattle.rules.specs.Log.{Record, commitTag, forgetTag, entryBytes, entriesBytes, recordBytes, written}
 use Rattle.rules.specs.Events.{entryOf}
 
 abbrev entries : List Enlistment → List ℕ
 entries es = entriesBytes (map entryOf es)
 
--- a loop that stores entries of 20 bytes
+-- a loop that stores entries
 pub record Entered (n : ℕ) (vs : List Enlistment) (l₀ : List ℕ) (at : ℕ) (l : List ℕ) (k : ℕ) : Type 0 where
   pub within : k ≤ n
   pub long : length vs ≡ n
   pub size : length l ≡ length l₀
-  pub same : sets l (at + 20 * k) (entries (drop k vs)) ≡ sets l₀ at (entries vs)
-  pub sizes : length (entries vs) ≡ 20 * k + length (entries (drop k vs))
+  pub same : sets l (at + entrySize * k) (entries (drop k vs)) ≡ sets l₀ at (entries vs)
+  pub sizes : length (entries vs) ≡ entrySize * k + length (entries (drop k vs))
 
 module _ {n : ℕ} {vs : List Enlistment} {l₀ : List ℕ} {at : ℕ} where
   pub enter-start : length vs ≡ n → Entered n vs l₀ at l₀ 0
-  enter-start h = record { within = omega arith; long = h; size = refl; same = (let e : at + 20 * 0 ≡ at = omega arith in rw e); sizes = omega arith }
+  enter-start h = record { within = omega arith; long = h; size = refl; same = (let e : at + entrySize * 0 ≡ at = omega arith in rw e); sizes = omega arith }
 
   pub enter-again : {l l′ : List ℕ} {k : ℕ} {e : Enlistment} (d : Enlistment) → Entered n vs l₀ at l k → k < n
-      → e ≡ getD vs k d → l′ ≡ sets l (at + 20 * k) (entryBytes (entryOf e)) → length (entryBytes (entryOf e)) ≡ 20 → Entered n vs l₀ at l′ (k + 1)
+      → e ≡ getD vs k d → l′ ≡ sets l (at + entrySize * k) (entryBytes (entryOf e)) → length (entryBytes (entryOf e)) ≡ entrySize → Entered n vs l₀ at l′ (k + 1)
   unfolding entriesBytes
   enter-again {l} {l′} {k} {e} d p h g q w =
-      let f : at + 20 * (k + 1) ≡ at + 20 * k + 20 = omega arith in
+      let f : at + entrySize * (k + 1) ≡ at + entrySize * k + entrySize = omega arith in
       record {
         within = omega arith;
         long = p .long;
-        size = rw q (length-sets l (at + 20 * k) (entryBytes (entryOf e)) ∙ p .size);
+        size = rw q (length-sets l (at + entrySize * k) (entryBytes (entryOf e)) ∙ p .size);
         same = rw (f, q) (rw (drop-at vs k d (omega arith), ← g, sets-append, w) at (p .same));
         sizes = omega (arith, rw (drop-at vs k d (omega arith), ← g, length-append, w) at (p .sizes));
       }
 
-  pub enter-done : {l : List ℕ} {k : ℕ} → Entered n vs l₀ at l k → n ≤ k → (l ≡ sets l₀ at (entries vs)) × (length (entries vs) ≡ 20 * n)
+  pub enter-done : {l : List ℕ} {k : ℕ} → Entered n vs l₀ at l k → n ≤ k → (l ≡ sets l₀ at (entries vs)) × (length (entries vs) ≡ entrySize * n)
   unfolding entriesBytes
   enter-done {l} {k} p h = (rw (drop-done vs k (omega arith)) at (p .same), omega (arith, rw (drop-done vs k (omega arith)) at (p .sizes)))
 
 -- a record, stored piece by piece
 pub commit-stored : (l : List ℕ) (used n : ℕ) (id : List ℕ) (es : List Enlistment) {l1 l2 l3 l4 : List ℕ}
-    → l1 ≡ set l used 1 → l2 ≡ set l1 (used + 1) n → l3 ≡ sets l2 (used + 2) id → length id ≡ 16 → l4 ≡ sets l3 (used + 18) (entries es) → length es ≡ n
+    → l1 ≡ set l used commitTag → l2 ≡ set l1 (used + 1) n → l3 ≡ sets l2 (used + 2) id → length id ≡ identifierSize → l4 ≡ sets l3 (used + recordSize) (entries es) → length es ≡ n
     → l4 ≡ written used (recordBytes (Record.commit id (map entryOf es))) l
 unfolding written recordBytes
 commit-stored l used n id es a b c s d e =
     let e1 : used + 1 ≡ suc used = omega arith in
     let e2 : used + 2 ≡ suc (suc used) = omega arith in
-    let e3 : used + 18 ≡ suc (suc used) + length id = omega arith in
+    let e3 : used + recordSize ≡ suc (suc used) + length id = omega arith in
     let e4 : length (map entryOf es) ≡ n = simp length-map e in
-    d ∙ rw (c, b, a, e3, e1, e2, e4) (sym (sets-append (set (set l used 1) (suc used) n) (suc (suc used)) id (entries es)))
+    d ∙ rw (c, b, a, e3, e1, e2, e4) (sym (sets-append (set (set l used commitTag) (suc used) n) (suc (suc used)) id (entries es)))
 
-pub forget-stored : (l : List ℕ) (used : ℕ) (id : List ℕ) {l1 l2 l3 : List ℕ} → l1 ≡ set l used 2 → l2 ≡ set l1 (used + 1) 0 → l3 ≡ sets l2 (used + 2) id → l3 ≡ written used (recordBytes (Record.forget id)) l
+pub forget-stored : (l : List ℕ) (used : ℕ) (id : List ℕ) {l1 l2 l3 : List ℕ} → l1 ≡ set l used forgetTag → l2 ≡ set l1 (used + 1) 0 → l3 ≡ sets l2 (used + 2) id → l3 ≡ written used (recordBytes (Record.forget id)) l
 unfolding written recordBytes
 forget-stored l used id a b c =
     let e1 : used + 1 ≡ suc used = omega arith in
     let e2 : used + 2 ≡ suc (suc used) = omega arith in
     c ∙ rw (b, a, e1, e2)
 
-pub commit-length : (id : List ℕ) (n : ℕ) (es : List Enlistment) → length id ≡ 16 → length (entries es) ≡ 20 * n → 18 + 20 * n ≡ length (recordBytes (Record.commit id (map entryOf es)))
+pub commit-length : (id : List ℕ) (n : ℕ) (es : List Enlistment) → length id ≡ identifierSize → length (entries es) ≡ entrySize * n → recordSize + entrySize * n ≡ length (recordBytes (Record.commit id (map entryOf es)))
 unfolding recordBytes
 commit-length id n es h k = omega (arith, length-append id (entries es))
 
-pub forget-length : (id : List ℕ) → length id ≡ 16 → 18 ≡ length (recordBytes (Record.forget id))
+pub forget-length : (id : List ℕ) → length id ≡ identifierSize → recordSize ≡ length (recordBytes (Record.forget id))
 unfolding recordBytes
 forget-length id h = omega arith

@@ -3,29 +3,26 @@
 ghost use mathlib.Core.Path.{_≡_};
 ghost use mathlib.Core.List.{map};
 ghost use Prim.Native.Nat.{_+_, _*_, _<_, _≤_};
-ghost use lib.ListN.{length, set, take};
+ghost use lib.ListN.{length, take};
 ghost use lib.Seq.{sets};
+ghost use Rattle.rules.specs.Sizes.{identifierSize, entrySize};
 ghost use Rattle.rules.specs.Log.{Record, low4, entryBytes, entriesBytes, recordBytes, written};
 ghost use Rattle.rules.specs.Events.{entryOf};
 use rules::Enlistment;
 use rules::sizes;
 use signals::Line;
 
-fn put(log: &mut [u8], at: usize, byte: u8)
-    ensures { λ r. ⌜ now (log .exit) ≡ set (now (log .entry)) at byte ⌝ }
-{
-    if at < log.len() {
-        log[at] = byte;
-    }
-}
+const RECORD: usize = sizes::RECORD as usize;
+
+const ENTRY: usize = sizes::ENTRY as usize;
 
 fn put_identifier(log: &mut [u8], at: usize, id: [u8; 16])
     requires { ⌜ at < 8589934592 ⌝ }
-    ensures { λ r. ⌜ (now (log .exit) ≡ sets (now (log .entry)) at id) × (length id ≡ 16) ⌝ }
+    ensures { λ r. ⌜ (now (log .exit) ≡ sets (now (log .entry)) at id) × (length id ≡ identifierSize) ⌝ }
 {
     let mut i: usize = 0;
-    while i < 16 {
-        put(log, at + i, id[i]);
+    while i < sizes::IDENTIFIER {
+        log_bytes::put(log, at + i, id[i]);
         i += 1;
     }
 }
@@ -35,30 +32,32 @@ fn put_number(log: &mut [u8], at: usize, n: u32)
     requires { ⌜ at < 8589934592 ⌝ }
     ensures { λ r. ⌜ now (log .exit) ≡ sets (now (log .entry)) at (low4 n) ⌝ }
 {
-    put(log, at, (n % 256) as u8);
-    put(log, at + 1, (n / 256 % 256) as u8);
-    put(log, at + 2, (n / 65536 % 256) as u8);
-    put(log, at + 3, (n / 16777216 % 256) as u8);
+    let bytes = basics::low_of(n);
+    let mut i: usize = 0;
+    while i < 4 {
+        log_bytes::put(log, at + i, bytes[i]);
+        i += 1;
+    }
 }
 
 fn put_entry(log: &mut [u8], at: usize, e: Enlistment)
     requires { ⌜ at < 8589934000 ⌝ }
-    ensures { λ r. ⌜ (now (log .exit) ≡ sets (now (log .entry)) at (entryBytes (entryOf e))) × (length (entryBytes (entryOf e)) ≡ 20) ⌝ }
+    ensures { λ r. ⌜ (now (log .exit) ≡ sets (now (log .entry)) at (entryBytes (entryOf e))) × (length (entryBytes (entryOf e)) ≡ entrySize) ⌝ }
 {
     let r = e.rm;
     let rm = r.0;
     put_identifier(log, at, rm);
-    put_number(log, at + 16, e.number);
+    put_number(log, at + sizes::IDENTIFIER, e.number);
 }
 
 fn put_entries(log: &mut [u8], at: usize, entries: [Enlistment; 17], count: usize)
     requires { ⌜ (count ≤ 17) × (at < 8589930000) ⌝ }
-    ensures { λ r. ⌜ (now (log .exit) ≡ sets (now (log .entry)) at (entriesBytes (map entryOf (take count entries)))) × (length (entriesBytes (map entryOf (take count entries))) ≡ 20 * count) ⌝ }
+    ensures { λ r. ⌜ (now (log .exit) ≡ sets (now (log .entry)) at (entriesBytes (map entryOf (take count entries)))) × (length (entriesBytes (map entryOf (take count entries))) ≡ entrySize * count) ⌝ }
 {
     let mut i: usize = 0;
     while i < count {
         let e = entries[i];
-        put_entry(log, at + 20 * i, e);
+        put_entry(log, at + ENTRY * i, e);
         i += 1;
     }
 }
@@ -72,10 +71,10 @@ pub fn put_commit(log: &mut [u8], used: u32, id: [u8; 16], line: Line) -> u32
     let at = used as usize;
     let entries = line.items;
     let count = line.count;
-    put(log, at, 1);
-    put(log, at + 1, count);
+    log_bytes::put(log, at, first_bytes::COMMIT);
+    log_bytes::put(log, at + 1, count);
     put_identifier(log, at + 2, id);
-    put_entries(log, at + 18, entries, count as usize);
+    put_entries(log, at + RECORD, entries, count as usize);
     sizes::RECORD + sizes::ENTRY * (count as u32)
 }
 
@@ -84,8 +83,8 @@ pub fn put_forget(log: &mut [u8], used: u32, id: [u8; 16]) -> u32
         × (r ≡ length (recordBytes (Record.forget id))) × (r ≤ 358) ⌝ }
 {
     let at = used as usize;
-    put(log, at, 2);
-    put(log, at + 1, 0);
+    log_bytes::put(log, at, first_bytes::FORGET);
+    log_bytes::put(log, at + 1, 0);
     put_identifier(log, at + 2, id);
     sizes::RECORD
 }

@@ -16,7 +16,11 @@ use Rattle.lists.proofs.Tests.{by-test, by-either, and-true}
 use Rattle.rules.specs.Sizes.{identifierSize, entrySize, recordSize, heldMost}
 use Rattle.rules.specs.Log.{number4, commitTag, forgetTag, sizeOf, entriesOf, recordOf, isWhole, scan, behind, beginsNone}
 use Rattle.log_reader.specs.Reading.{bytesAt, identifierAt, managerAt, numberAt, entriesFrom, entriesCount, entriesAt, isCommitAt, recordAt, sizeAt, wholeAt, noneAt}
-use Rattle.log_reader.proofs.Places.{not-forget}
+
+-- ── the first byte of a record ──────────────────────────────────────────────────────────────────────────────────
+
+pub not-forget : (b : ℕ) → eqb b commitTag ≡ true → eqb b forgetTag ≡ false
+not-forget b t = ne-eqb b forgetTag (λ e. omega (arith, eqb-true b commitTag t))
 
 -- ── bytes that are passed over ──────────────────────────────────────────────────────────────────────────────────
 

@@ -3,6 +3,7 @@
 ghost use mathlib.Core.Path.{_≡_};
 ghost use Rattle.lists.specs.Places.{changeAt};
 ghost use Rattle.rules.specs.Table.{noTransaction, noEnlistment, freshOf, transactionAt, withEnlistments, changeTransaction};
+ghost use Rattle.places.specs.Empty.{emptyTable};
 use rules::Enlistment;
 use rules::RmId;
 use rules::Table;
@@ -34,8 +35,9 @@ pub fn no_enlistment() -> Enlistment
     }
 }
 
-pub fn fresh(capacity: u32) -> Table
-    ensures { λ r. ⌜ r ≡ freshOf capacity ⌝ }
+// Of any used length: a fresh table, and that of a restart before the open transactions are put there.
+pub fn empty(capacity: u32, used: u32) -> Table
+    ensures { λ r. ⌜ r ≡ emptyTable capacity used ⌝ }
 {
     let x = no_transaction();
     let e = no_enlistment();
@@ -45,8 +47,14 @@ pub fn fresh(capacity: u32) -> Table
         transactions: transactions,
         enlistments: enlistments,
         capacity: capacity,
-        used: sizes::HEADER,
+        used: used,
     }
+}
+
+pub fn fresh(capacity: u32) -> Table
+    ensures { λ r. ⌜ r ≡ freshOf capacity ⌝ }
+{
+    empty(capacity, sizes::HEADER)
 }
 
 pub fn transaction_at(table: Table, p: u8) -> Transaction

@@ -1,4 +1,4 @@
--- The answers of a restart, by the tests that lead to each.
+-- Each test of the code decides one test of the definition, so that the answer that they lead to is the definition's.
 use Prim.Native.Nat.{ℕ, _+_, _*_, _≤_, _<_}
 use native.Mathlib.Omega.{arith}
 use mathlib.Core.Path.{_≡_, sym, _∙_, ap}
@@ -23,8 +23,10 @@ use Rattle.log_reader.proofs.Scanning.{bytes-are}
 use Rattle.open_records.specs.Opening.{startsOf, opensOf}
 use Rattle.open_records.proofs.Rows.{opens-long}
 use Rattle.restart.specs.declared.Readings.{Readings}
-use Rattle.restart.specs.Readback.{bodyOf, Read, emptyTable, refusedAs, doneWith, transactionsPut, enlistmentsPut}
-use Rattle.restart.proofs.Building.{table-is}
+use Rattle.places.specs.Empty.{emptyTable}
+use Rattle.reopening.specs.Reopened.{transactionsPut, enlistmentsPut}
+use Rattle.reopening.proofs.Building.{table-is}
+use Rattle.restart.specs.Readback.{bodyOf, Read, refusedAs, doneWith}
 
 -- ── behind the header ───────────────────────────────────────────────────────────────────────────────────────────
 

@@ -1,4 +1,3 @@
 pub mod Judging
-pub mod Building
 pub mod Answers
 pub mod Determined

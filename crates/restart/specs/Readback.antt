@@ -2,16 +2,15 @@
 use Prim.Native.Nat.{ℕ, _≤_}
 use mathlib.Core.Path.{_≡_}
 use mathlib.Core.Bool.{false}
-use mathlib.Core.List.{List, [], map}
+use mathlib.Core.List.{List, []}
 use lib.ListN.{length, take, drop}
-use lib.Seq.{sets}
 use Rattle.rules.specs.declared.Table.{Table}
 use Rattle.rules.specs.declared.Restarted.{Restarted}
 use Rattle.rules.specs.RefusalNumber as refusal
 use Rattle.rules.specs.Sizes.{transactionPlaces, enlistmentPlaces, headerSize}
-use Rattle.rules.specs.Table.{emptyTransactions, emptyEnlistments, zeroTable, withTransactions, withEnlistments}
-use Rattle.rules.specs.Log.{Entry, scan}
-use Rattle.rules.specs.Restart.{Open, entriesOpen, openAfter, reopened, reenlistment, reenlistments, usedOf, isDamaged}
+use Rattle.rules.specs.Table.{zeroTable}
+use Rattle.rules.specs.Log.{scan}
+use Rattle.rules.specs.Restart.{entriesOpen, openAfter, usedOf, isDamaged}
 use Rattle.open_records.specs.Opening.{opensOf}
 use Rattle.restart.specs.declared.Readings.{Readings}
 
@@ -31,23 +30,8 @@ pub record Read (log : List ℕ) (stored : ℕ) (r : Readings) : Type 0 where
   pub damage : r .damaged ≡ isDamaged (bodyOf log stored)
   pub else : r .damaged ≡ false → Undamaged log stored r
 
-abbrev pub emptyTable : ℕ → ℕ → Table
-emptyTable capacity used = record { transactions = emptyTransactions; enlistments = emptyEnlistments; capacity = capacity; used = used }
-
 abbrev pub refusedAs : ℕ → Restarted
 refusedAs why = record { refusal = why; table = zeroTable }
 
 abbrev pub doneWith : Table → Restarted
 doneWith tb = record { refusal = refusal.accepted; table = tb }
-
--- the transactions of the open records, in the first places
-unfoldable pub transactionsPut : List Open → Table → Table
-transactionsPut os tb = withTransactions (sets (tb .transactions) 0 (map reopened os)) tb
-
--- the entries of one of them, that of place p, from index k on
-unfoldable pub entriesPut : ℕ → List Entry → ℕ → Table → Table
-entriesPut p es k tb = withEnlistments (sets (tb .enlistments) k (map (reenlistment p) es)) tb
-
--- and those of all
-unfoldable pub enlistmentsPut : List Open → Table → Table
-enlistmentsPut os tb = withEnlistments (sets (tb .enlistments) 0 (reenlistments 1 os)) tb

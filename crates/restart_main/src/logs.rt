@@ -1,5 +1,13 @@
 // Logs made by hand, byte for byte, in memory that is zero; what would stand past their end is dropped.
 
+use rules::sizes;
+
+const RECORD: u16 = sizes::RECORD as u16;
+
+const ENTRY: u16 = sizes::ENTRY as u16;
+
+const IDENTIFIER: u16 = sizes::IDENTIFIER as u16;
+
 pub fn put(log: &mut [u8], at: usize, b: u8) {
     if at < log.len() {
         log[at] = b;
@@ -40,21 +48,22 @@ fn identifier(log: &mut [u8], at: usize, last: u8) {
 }
 
 fn number(log: &mut [u8], at: usize, n: u32) {
-    let second = plus(at, 1);
-    let third = plus(at, 2);
-    let fourth = plus(at, 3);
-    put(log, at, (n % 256) as u8);
-    put(log, second, (n / 256 % 256) as u8);
-    put(log, third, (n / 65536 % 256) as u8);
-    put(log, fourth, (n / 16777216 % 256) as u8);
+    let bytes = basics::low_of(n);
+    let mut i: u16 = 0;
+    while i < 4 {
+        let place = plus(at, i);
+        let k = i as usize;
+        put(log, place, bytes[k]);
+        i += 1;
+    }
 }
 
 // Numbers and resource managers go up by one from entry to entry.
 fn entry(log: &mut [u8], at: usize, j: u8, first: u32, rm: u8) {
-    let start = plus(at, 18 + 20 * (j as u16));
+    let start = plus(at, RECORD + ENTRY * (j as u16));
     let last = up(rm as u32, j) % 256;
     identifier(log, start, last as u8);
-    let behind = plus(start, 16);
+    let behind = plus(start, IDENTIFIER);
     let n = up(first, j);
     number(log, behind, n);
 }
@@ -71,12 +80,21 @@ pub fn commit(log: &mut [u8], at: usize, t: u8, n: u8, first: u32, rm: u8) -> us
         entry(log, at, j, first, rm);
         j += 1;
     }
-    plus(at, 18 + 20 * (n as u16))
+    plus(at, RECORD + ENTRY * (n as u16))
 }
 
 pub fn forget(log: &mut [u8], at: usize, t: u8) -> usize {
     put(log, at, 2);
     let name = plus(at, 2);
     identifier(log, name, t);
-    plus(at, 18)
+    plus(at, RECORD)
+}
+
+// A forget record where there are no entries.
+pub fn record(log: &mut [u8], at: usize, t: u8, n: u8, first: u32, rm: u8) -> usize {
+    let forgets = n == 0;
+    if forgets {
+        return forget(log, at, t);
+    }
+    commit(log, at, t, n, first, rm)
 }

@@ -5,6 +5,8 @@ mod shown;
 
 fn main() {
     headers();
+    wrong_headers();
+    capacities();
     beginnings();
     zeros();
     open_or_not();
@@ -12,31 +14,35 @@ fn main() {
     torn();
     full();
     order();
+    most();
     many();
 }
 
-// 0xEE in the place of byte i, if it is none of the first n.
-fn unless(log: &mut [u8], n: u8, i: u8) {
-    if n <= i {
+// 0xEE in the place of each byte of the header from the n-th on.
+fn spoil(log: &mut [u8], n: u8) {
+    let mut i = n;
+    while i < 8 {
         logs::put(log, i as usize, 0xEE);
+        i += 1;
     }
 }
 
 // The first n bytes of the header alone.
 fn begun(n: u8) {
     let mut log = logs::empty();
-    unless(&mut log, n, 0);
-    unless(&mut log, n, 1);
-    unless(&mut log, n, 2);
-    unless(&mut log, n, 3);
-    unless(&mut log, n, 4);
-    unless(&mut log, n, 5);
-    unless(&mut log, n, 6);
-    unless(&mut log, n, 7);
+    spoil(&mut log, n);
     shown::restarted(b"header ", n as u64, &mut log, 64, n as usize);
 }
 
-// One wrong byte in it: all of it stored, and stored to that byte.
+fn headers() {
+    let mut n: u8 = 0;
+    while n <= 8 {
+        begun(n);
+        n += 1;
+    }
+}
+
+// One wrong byte in the header: all of it stored, and stored to that byte.
 fn wrong(i: u8) {
     let mut log = logs::empty();
     logs::put(&mut log, i as usize, 9);
@@ -50,31 +56,36 @@ fn wrong(i: u8) {
     );
 }
 
-fn headers() {
-    begun(0);
-    begun(1);
-    begun(2);
-    begun(3);
-    begun(4);
-    begun(5);
-    begun(6);
-    begun(7);
-    begun(8);
-    wrong(0);
-    wrong(1);
-    wrong(2);
-    wrong(3);
-    wrong(4);
-    wrong(5);
-    wrong(6);
-    wrong(7);
+fn wrong_headers() {
+    let mut i: u8 = 0;
+    while i < 8 {
+        wrong(i);
+        i += 1;
+    }
+}
+
+fn small(which: &[u8], case: u64, capacity: usize, stored: usize) {
     let mut log = logs::empty();
-    shown::restarted(b"capacity ", 7, &mut log, 7, 0);
-    shown::restarted(b"capacity ", 8, &mut log, 8, 0);
-    shown::restarted(b"stored above ", 9, &mut log, 8, 9);
-    let mut large = [0u8; 65537];
-    shown::restarted(b"capacity ", 65536, &mut large, 65536, 0);
-    shown::restarted(b"capacity ", 65537, &mut large, 65537, 0);
+    shown::restarted(which, case, &mut log, capacity, stored);
+}
+
+fn large(capacity: u32) {
+    let mut log = [0u8; 65537];
+    shown::restarted(
+        b"capacity ",
+        capacity as u64,
+        &mut log,
+        capacity as usize,
+        0,
+    );
+}
+
+fn capacities() {
+    small(b"capacity ", 7, 7, 0);
+    small(b"capacity ", 8, 8, 0);
+    small(b"stored above ", 9, 8, 9);
+    large(65536);
+    large(65537);
 }
 
 // The bytes that no record begins with, and those that one does: n of them are stored.
@@ -136,15 +147,19 @@ fn forgotten(which: &[u8], t: u8) {
     judged(which, &mut log, last);
 }
 
-fn open_or_not() {
-    committed(b"commit of an open one ", 7, 3);
-    forgotten(b"forget of one not open ", 8);
-    forgotten(b"forget of zero ", 0);
+fn forgotten_twice() {
     let mut log = logs::empty();
     let end = logs::commit(&mut log, 8, 7, 2, 1, 21);
     let again = logs::forget(&mut log, end, 7);
     let last = logs::forget(&mut log, again, 7);
     judged(b"forgotten twice ", &mut log, last);
+}
+
+fn open_or_not() {
+    committed(b"commit of an open one ", 7, 3);
+    forgotten(b"forget of one not open ", 8);
+    forgotten(b"forget of zero ", 0);
+    forgotten_twice();
 }
 
 fn numbers_and_managers() {
@@ -171,34 +186,63 @@ fn torn() {
     }
 }
 
-fn full() {
+// A commit record, and the forget record behind it as far as it is stored.
+fn limited(which: &[u8], capacity: u8, stored: u8) {
     let mut log = logs::empty();
     let end = logs::commit(&mut log, 8, 7, 2, 1, 21);
-    shown::restarted(b"room for its forget record ", 84, &mut log, 84, end);
-    shown::restarted(b"one byte too few ", 83, &mut log, 83, end);
-    shown::restarted(b"no room at all ", 66, &mut log, 66, end);
-    let last = logs::forget(&mut log, end, 7);
-    shown::restarted(b"exactly full ", 84, &mut log, 84, last);
-    shown::restarted(b"torn and full ", 83, &mut log, 83, 83);
+    logs::forget(&mut log, end, 7);
+    shown::restarted(
+        which,
+        capacity as u64,
+        &mut log,
+        capacity as usize,
+        stored as usize,
+    );
 }
 
-// Reopened transactions, and numbers used again.
-fn order() {
+fn full() {
+    limited(b"room for its forget record ", 84, 66);
+    limited(b"one byte too few ", 83, 66);
+    limited(b"no room at all ", 66, 66);
+    limited(b"exactly full ", 84, 84);
+    limited(b"torn and full ", 83, 83);
+}
+
+// Reopened transactions, and numbers used again, one record behind the other; with no entries it is a forget record.
+fn reopened(log: &mut [u8]) {
+    let transactions = [7u8, 5, 7, 6, 7, 6, 8, 8];
+    let entries = [2u8, 1, 0, 2, 1, 0, 1, 0];
+    let numbers = [1u32, 3, 0, 1, 9, 0, 4294967295, 0];
+    let managers = [21u8, 21, 0, 31, 21, 0, 21, 0];
+    let mut end: usize = 8;
+    let mut i: usize = 0;
+    while i < 8 {
+        end = logs::record(
+            log,
+            end,
+            transactions[i],
+            entries[i],
+            numbers[i],
+            managers[i],
+        );
+        i += 1;
+    }
+}
+
+// Stored up to the end of one of them.
+fn stored_to(which: &[u8], end: usize) {
     let mut log = logs::empty();
-    let a = logs::commit(&mut log, 8, 7, 2, 1, 21);
-    let b = logs::commit(&mut log, a, 5, 1, 3, 21);
-    let c = logs::forget(&mut log, b, 7);
-    judged(b"one is left ", &mut log, c);
-    let d = logs::commit(&mut log, c, 6, 2, 1, 31);
-    judged(b"numbers again ", &mut log, d);
-    let e = logs::commit(&mut log, d, 7, 1, 9, 21);
-    judged(b"reopened ", &mut log, e);
-    let f = logs::forget(&mut log, e, 6);
-    judged(b"the middle one ends ", &mut log, f);
-    let g = logs::commit(&mut log, f, 8, 1, 4294967295, 21);
-    judged(b"largest number ", &mut log, g);
-    let h = logs::forget(&mut log, g, 8);
-    judged(b"and forgotten ", &mut log, h);
+    reopened(&mut log);
+    judged(which, &mut log, end);
+}
+
+fn order() {
+    stored_to(b"one is left ", 122);
+    stored_to(b"numbers again ", 180);
+    stored_to(b"reopened ", 218);
+    stored_to(b"the middle one ends ", 236);
+    stored_to(b"largest number ", 274);
+    stored_to(b"and forgotten ", 292);
 }
 
 fn more_entries(which: &[u8], log: &mut [u8], end: usize, number: u32, more: u8) {
@@ -224,12 +268,15 @@ fn opened(which: &[u8], transactions: u8, each: u8, more: u8) {
     more_entries(which, &mut log, end, number, more);
 }
 
-// Closed records nearly to the end of the largest log, and an open one behind them.
-fn many() {
+fn most() {
     opened(b"open ", 32, 1, 0);
     opened(b"open ", 33, 1, 0);
     opened(b"entries ", 8, 16, 0);
     opened(b"entries ", 8, 16, 1);
+}
+
+// Closed records nearly to the end of the largest log, and an open one behind them.
+fn many() {
     let mut log = [0u8; 65536];
     logs::header(&mut log);
     let mut end: usize = 8;

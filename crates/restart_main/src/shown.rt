@@ -15,6 +15,12 @@ fn count(before: &[u8], n: u64) {
     io::print_decimal(STDOUT_FILENO, n);
 }
 
+// Behind one byte, which parts it from what stands before it.
+fn part(mark: u8, n: u64) {
+    let marks = [mark];
+    count(&marks, n);
+}
+
 fn wide(b: u8) -> u64 {
     b as u64
 }
@@ -56,11 +62,11 @@ fn changed(a: &[u8], b: &[u8], n: usize) -> u64 {
 fn enlistment(e: Enlistment) {
     let rm = e.rm;
     let id = rm.0;
-    count(b" ", e.number as u64);
-    count(b"/", wide(id[15]));
-    count(b"/", wide(e.kind));
-    count(b"/", wide(e.mark));
-    count(b"/", wide(e.state));
+    part(b' ', e.number as u64);
+    part(b'/', wide(id[15]));
+    part(b'/', wide(e.kind));
+    part(b'/', wide(e.mark));
+    part(b'/', wide(e.state));
 }
 
 fn held(table: Table, p: u8) {
@@ -99,10 +105,10 @@ fn rows(table: Table) {
 fn listed_row(x: Row) {
     let t = x.id;
     let id = t.0;
-    count(b" ", wide(id[15]));
-    count(b"/", wide(x.state));
-    count(b"/", wide(x.held));
-    count(b"/", wide(x.undone));
+    part(b' ', wide(id[15]));
+    part(b'/', wide(x.state));
+    part(b'/', wide(x.held));
+    part(b'/', wide(x.undone));
 }
 
 // The listing into 32 rows, by the half that takes and gives values: its refusal, and each row as identifier/state/held/not Done.
@@ -118,15 +124,19 @@ fn list(table: Table) {
     }
 }
 
-fn told(which: &[u8], case: u64, r: Restarted, different: u64) {
-    let t = r.table;
+fn numbers(t: Table, different: u64) {
     let d = dispenser::dispenser_after(t);
-    count(which, case);
-    count(b": ", wide(r.refusal));
     count(b" used ", t.used as u64);
     count(b" of ", t.capacity as u64);
     count(b" changed ", different);
     count(b" next ", d.next as u64);
+}
+
+fn told(which: &[u8], case: u64, r: Restarted, different: u64) {
+    let t = r.table;
+    count(which, case);
+    count(b": ", wide(r.refusal));
+    numbers(t, different);
     rows(t);
     list(t);
     say(b"\n");

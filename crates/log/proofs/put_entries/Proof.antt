@@ -1,4 +1,4 @@
--- The entries are stored in their order.
+-- Each entry is stored behind the one before it, so that those that are left give the whole.
 use Prim.Native.Nat.{_-_}
 use native.Mathlib.Omega.{arith}
 use mathlib.Core.Path.{_≡_, sym}

@@ -1,4 +1,4 @@
--- The number stands behind the identifier.
+-- The number is stored right behind the identifier, whose length is known.
 use native.Mathlib.Omega.{arith}
 use lib.ListN.{length-append}
 use borrow.Author.Needs.{needs}

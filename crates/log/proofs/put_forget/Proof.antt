@@ -1,4 +1,4 @@
--- The pieces of the record follow one another.
+-- The pieces of the record follow one another without a gap.
 use native.Mathlib.Omega.{arith}
 use borrow.Author.Needs.{needs}
 use Rattle.log.proofs.Stores.{forget-stored, forget-length}

@@ -1,8 +1,7 @@
--- Four stores, at four indices that follow one another.
-use Prim.Native.Nat.{suc, _+_}
-use mathlib.Core.Path.{_≡_}
-use native.Mathlib.Omega.{arith}
+-- Each of the four bytes is stored behind the one before it, so that those that are left give the whole.
+use Prim.Native.Nat.{_-_}
 use borrow.Author.Needs.{needs}
+use Rattle.lists.proofs.Stores.{Stored, store-start, store-again, store-done}
 use Rattle.log.proofs.put_number.Statement.{statement}
 use Rattle.log.proofs.put_number.Tie as tie
 
@@ -10,16 +9,15 @@ pub put-number-spec : {M : Type 1} → statement M
 put-number-spec =
     tie.close
     (tie.spec
+    (λ log₀ at n bytes i₀ log i. Stored 4 bytes log₀ at log i)
+    (λ log₀ at n bytes i₀ log i. 4 - i)
+    (λ c κs. search needs)
+    (λ c. store-start (search needs))
+    (λ c. search needs)
     (λ c. search needs)
     (λ c κs. search needs)
     (λ c. search needs)
     (λ c. search needs)
-    (λ c κs. search needs)
-    (λ c. search needs)
-    (λ c. search needs)
-    (λ c κs. search needs)
-    (λ c. search needs)
-    (λ c. search needs)
-    (λ c κs. search needs)
-    (λ c. search needs)
-    (λ c. let e1 : c .before .before .before .before .before .before .before .before .before .before .before .before .before .before .before .before .before .args .at + 1 ≡ suc (c .before .before .before .before .before .before .before .before .before .before .before .before .before .before .before .before .before .args .at) = omega arith in let e2 : c .before .before .before .before .before .before .before .before .before .before .before .before .before .before .before .before .before .args .at + 2 ≡ suc (suc (c .before .before .before .before .before .before .before .before .before .before .before .before .before .before .before .before .before .args .at)) = omega arith in let e3 : c .before .before .before .before .before .before .before .before .before .before .before .before .before .before .before .before .before .args .at + 3 ≡ suc (suc (suc (c .before .before .before .before .before .before .before .before .before .before .before .before .before .before .before .before .before .args .at))) = omega arith in rw (c .before .before .put4 .ensures, c .before .before .before .before .before .before .put3 .ensures, c .before .before .before .before .before .before .before .before .before .before .put2 .ensures, c .before .before .before .before .before .before .before .before .before .before .before .before .before .before .put .ensures, e1, e2, e3)))
+    (λ c. store-again (c .before .before .before .before .before .loop .inv) (c .before .before .before .before .loop-test .taken) (c .before .before .put .ensures))
+    (λ c. c .before .loop .inv .size)
+    (λ c. rw (c .before .before .low-of .ensures) at (store-done (c .before .loop .inv) (c .loop-test .left))))

@@ -1,4 +1,4 @@
--- `log_reader::entries_count` meets its contract: it is the second byte.
+-- The number of entries is the second byte.
 use borrow.Author.Needs.{needs}
 use Rattle.log_reader.specs.Reading.{entriesCount}
 use Rattle.log_reader.proofs.entries_count.Statement.{statement}

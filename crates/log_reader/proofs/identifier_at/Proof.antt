@@ -1,4 +1,4 @@
--- `log_reader::identifier_at` meets its contract, by that of the function that it calls.
+-- The identifier stands behind the first two bytes.
 use borrow.Author.Needs.{needs}
 use Rattle.log_reader.specs.Reading.{identifierAt}
 use Rattle.log_reader.proofs.identifier_at.Statement.{statement}

@@ -1,4 +1,4 @@
--- `log_reader::identifier_from` meets its contract: the bytes that are still to be put, behind those that are put, are the whole.
+-- Each turn puts one byte, so that the bytes that are still to be put, behind those that are, are the whole.
 use Prim.Native.Nat.{_-_}
 use borrow.Author.Needs.{needs}
 use Rattle.lists.proofs.Loops.{rewrite-done}

@@ -1,4 +1,4 @@
--- `log_reader::is_commit` meets its contract: it tests the first byte.
+-- The first byte is the tag.
 use native.Mathlib.Nat.{add-zero}
 use borrow.Author.Needs.{needs}
 use Rattle.log_reader.specs.Reading.{isCommitAt}

@@ -1,4 +1,4 @@
--- `log_reader::manager_at` meets its contract, by that of the function that it calls.
+-- Entry j begins behind the record's fixed part and j entries.
 use borrow.Author.Needs.{needs}
 use Rattle.log_reader.specs.Reading.{managerAt}
 use Rattle.log_reader.proofs.manager_at.Statement.{statement}

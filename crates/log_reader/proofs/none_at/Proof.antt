@@ -1,4 +1,4 @@
--- `log_reader::none_at` meets its contract: its tests are the definition's.
+-- What is left of the stored bytes decides how many are read, here as in the definition.
 use native.Mathlib.Nat.{add-zero}
 use borrow.Author.Needs.{needs}
 use Rattle.log_reader.specs.Reading.{noneAt}

@@ -1,4 +1,4 @@
--- `log_reader::number_at` meets its contract, by that of the function that it calls.
+-- The number stands behind the manager of its entry.
 use borrow.Author.Needs.{needs}
 use Rattle.log_reader.specs.Reading.{numberAt}
 use Rattle.log_reader.proofs.number_at.Statement.{statement}

@@ -1,4 +1,4 @@
--- `log_reader::number_from` meets its contract: the four bytes stand one behind the other.
+-- The four bytes stand one behind the other, each read by its own sum.
 use mathlib.Core.Path.{_∙_}
 use borrow.Author.Needs.{needs}
 use Rattle.log_reader.proofs.Places.{four-bytes}

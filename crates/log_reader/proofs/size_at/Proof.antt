@@ -1,4 +1,4 @@
--- `log_reader::size_at` meets its contract: the two bytes are read at the place and behind it.
+-- The two bytes stand at the place and behind it.
 use native.Mathlib.Nat.{add-zero}
 use borrow.Author.Needs.{needs}
 use Rattle.log_reader.proofs.size_at.Statement.{statement}

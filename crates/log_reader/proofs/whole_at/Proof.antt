@@ -1,4 +1,4 @@
--- `log_reader::whole_at` meets its contract: its tests are the definition's.
+-- A record is whole where two bytes are left, and then as many as these say.
 use borrow.Author.Needs.{needs}
 use Rattle.log_reader.specs.Reading.{wholeAt}
 use Rattle.log_reader.proofs.whole_at.Statement.{statement}

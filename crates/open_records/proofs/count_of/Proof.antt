@@ -1,4 +1,4 @@
--- `open_records::count_of` meets its contract: of 32 places the first count are as many, but not more than 32.
+-- The array has 32 places, so that its first count are as many, but not more than 32.
 use native.Mathlib.Omega.{arith}
 use borrow.Author.Needs.{needs}
 use mathlib.Core.Path.{_≡_}

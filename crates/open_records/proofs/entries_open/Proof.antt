@@ -1,4 +1,4 @@
--- `open_records::entries_open` meets its contract: the sum so far, and the entries that are left, are all.
+-- Each record adds as many as its second byte says, so that the sum so far and the entries that are left are all.
 use Prim.Native.Nat.{_-_}
 use native.Mathlib.Omega.{arith}
 use borrow.Author.Needs.{needs}

@@ -1,4 +1,4 @@
--- `open_records::has_held` meets its contract: what is left of the entries says what all say.
+-- No number that is passed is held in an open record, so that the entries that are left say what all say.
 use Prim.Native.Nat.{_-_}
 use mathlib.Core.Path.{refl}
 use borrow.Author.Needs.{needs}
@@ -7,7 +7,7 @@ use Rattle.lists.specs.Lists.{any}
 use Rattle.rules.specs.Restart.{entriesOpen}
 use Rattle.log_reader.specs.Reading.{entriesAt}
 use Rattle.open_records.specs.Opening.{opensOf}
-use Rattle.open_records.proofs.Rows.{Seen, seen-next, seen-here, seen-none, entry-next, entries-over}
+use Rattle.entries.proofs.Rows.{Seen, seen-next, seen-here, seen-none, entry-next, entries-over}
 use Rattle.open_records.proofs.has_held.Statement.{statement}
 use Rattle.open_records.proofs.has_held.Tie as tie
 

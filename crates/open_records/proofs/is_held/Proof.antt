@@ -1,11 +1,12 @@
--- `open_records::is_held` meets its contract: an entry of all open records is one of one of them, and what is left of these says what all say.
+-- An entry of all open records is an entry of one of them, and those that are passed don't have the number.
 use Prim.Native.Nat.{_-_}
 use borrow.Author.Needs.{needs}
 use lib.Dec.{eqb}
 use Rattle.lists.specs.Lists.{any}
 use Rattle.rules.specs.Restart.{entriesOpen}
 use Rattle.open_records.specs.Opening.{opensOf}
-use Rattle.open_records.proofs.Rows.{Seen, seen-next, seen-here, seen-none, open-next, opens-over, any-entries}
+use Rattle.entries.proofs.Rows.{Seen, seen-next, seen-here, seen-none}
+use Rattle.open_records.proofs.Rows.{open-next, opens-over, any-entries}
 use Rattle.open_records.proofs.is_held.Statement.{statement}
 use Rattle.open_records.proofs.is_held.Tie as tie
 

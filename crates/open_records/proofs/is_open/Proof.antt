@@ -1,11 +1,12 @@
--- `open_records::is_open` meets its contract: what is left of the open records says what all say.
+-- The open records that are passed are other transactions', so that those that are left say what all say.
 use Prim.Native.Nat.{_-_}
 use mathlib.Core.Path.{refl}
 use borrow.Author.Needs.{needs}
 use Rattle.lists.specs.Lists.{any}
 use Rattle.rules.specs.Restart.{isOpenAs}
 use Rattle.open_records.specs.Opening.{opensOf}
-use Rattle.open_records.proofs.Rows.{Seen, seen-next, seen-here, seen-none, open-next, opens-over}
+use Rattle.entries.proofs.Rows.{Seen, seen-next, seen-here, seen-none}
+use Rattle.open_records.proofs.Rows.{open-next, opens-over}
 use Rattle.open_records.proofs.is_open.Statement.{statement}
 use Rattle.open_records.proofs.is_open.Tie as tie
 

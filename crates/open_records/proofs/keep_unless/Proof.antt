@@ -1,4 +1,4 @@
--- `open_records::keep_unless` meets its contract: its test is the definition's.
+-- One comparison decides, here as in the definition.
 use borrow.Author.Needs.{needs}
 use Rattle.open_records.proofs.keep_unless.Statement.{statement}
 use Rattle.open_records.proofs.keep_unless.Tie as tie

@@ -1,4 +1,4 @@
--- `open_records::open_behind` meets its contract: its test is the definition's.
+-- The first byte says which of the two a record does: it puts its place behind the others, or takes its transaction's away.
 use borrow.Author.Needs.{needs}
 use Rattle.open_records.specs.Opening.{openBehind}
 use Rattle.open_records.proofs.open_behind.Statement.{statement}

@@ -1,4 +1,4 @@
--- `open_records::with_start` meets its contract: its test is the definition's.
+-- As many places are in use as are counted, so that the test of the code is that of the definition.
 use borrow.Author.Needs.{needs}
 use borrow.Author.Tests.{lt-ltb, le-ltb}
 use Rattle.open_records.specs.Opening.{withStart}

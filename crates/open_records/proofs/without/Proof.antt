@@ -1,9 +1,10 @@
--- `open_records::without` meets its contract: what is left of the places, behind those that are kept so far, gives the whole.
+-- Each place that is passed is kept, or was the transaction's, so that the places that are left, behind those kept, give the whole.
 use Prim.Native.Nat.{_-_}
 use mathlib.Core.Path.{refl}
 use borrow.Author.Needs.{needs}
 use Rattle.open_records.specs.Opening.{startsOf, noneOpen, keptFrom}
-use Rattle.open_records.proofs.Rows.{Left, left-next, left-done, start-next, starts-over}
+use Rattle.entries.proofs.Rows.{Left, left-next, left-done}
+use Rattle.open_records.proofs.Rows.{start-next, starts-over}
 use Rattle.open_records.proofs.without.Statement.{statement}
 use Rattle.open_records.proofs.without.Tie as tie
 

@@ -1,4 +1,4 @@
--- Each act is a case of the definition.
+-- Each act has its own reaction, here as in the definition; the others are refused.
 use borrow.Author.Needs.{needs}
 use Rattle.reactions.proofs.reaction.Statement.{statement}
 use Rattle.reactions.proofs.reaction.Tie as tie

@@ -1,4 +1,4 @@
--- `restart::is_outside` meets its contract: its tests are the definition's.
+-- The tests are those of the definition; the first that holds decides.
 use Rattle.restart.proofs.is_outside.Statement.{statement}
 use Rattle.restart.proofs.is_outside.Tie as tie
 

@@ -1,4 +1,4 @@
--- `restart::read_back` meets its contract: its tests lead to the answers of the definition.
+-- Damage is told before a short log; else the table is that of the open records, since all that is read fits.
 use native.Mathlib.Omega.{arith}
 use borrow.Author.Needs.{needs}
 use Rattle.restart.proofs.Answers.{answer-damaged, answer-short, answer-done}

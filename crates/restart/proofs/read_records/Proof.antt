@@ -1,4 +1,4 @@
--- `restart::read_records` meets its contract: at each turn, what is left to read, judged with the records that are open so far, gives the whole.
+-- What is left to read, judged with the records that are open so far, gives the whole, and each turn reads on.
 use Prim.Native.Nat.{_-_}
 use native.Mathlib.Omega.{arith}
 use mathlib.Core.Path.{refl, sym, _∙_}

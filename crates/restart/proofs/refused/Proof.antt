@@ -1,4 +1,4 @@
--- `restart::refused` meets its contract: it is made of an empty table.
+-- A table with empty places, of capacity and used length 0, is all zeros.
 use borrow.Author.Needs.{needs}
 use Rattle.restart.proofs.refused.Statement.{statement}
 use Rattle.restart.proofs.refused.Tie as tie

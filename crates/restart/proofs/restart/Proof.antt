@@ -1,4 +1,4 @@
--- `restart::restart` meets its contract: its tests lead to the answers of the definition, and only where less than the header is stored the header is written.
+-- Each test leaves one answer of the definition, and the header is written only where less than that is stored.
 use native.Mathlib.Omega.{arith}
 use mathlib.Core.Path.{refl, sym, _∙_}
 use borrow.Author.Needs.{needs}
@@ -24,7 +24,7 @@ restart-spec =
     (λ c.
     let i = inside (c .before .before .before .before .before .before .before .before .before .before .before .before .before .args .log .now) (c .before .before .before .before .before .before .before .before .before .before .before .before .before .args .stored) (sym (c .before .before .before .before .before .before .before .before .before .before .before .is-outside .ensures) ∙ c .before .before .before .before .before .before .before .before .before .before .if1 .left) in
     rw (begun-is (c .before .before .before .before .before .before .before .before .before .before .before .before .before .args .log .now) (c .before .before .before .before .before .before .before .before .before .before .before .before .before .args .stored) (sym (c .before .before .before .before .before .before .before .before .before .before .before .is-outside .ensures) ∙ c .before .before .before .before .before .before .before .before .before .before .if1 .left) (c .before .before .before .before .before .before .before .before .before .if2 .taken) (sym (c .before .before .before .before .before .before .before .begins-header .ensures) ∙ c .before .before .before .before .before .before .if3 .taken))
-    (rw (c .before .empty .ensures, c .before .before .before .before .write-header .kept .0) at (c .done .ensures), c .before .before .before .before .write-header .ensures ∙ header-written _ (i .least)))
+    (rw (c .before .fresh .ensures, c .before .before .before .before .write-header .kept .0) at (c .done .ensures), c .before .before .before .before .write-header .ensures ∙ header-written _ (i .least)))
     (λ c κs. search needs)
     (λ c. search needs)
     (λ c. rw (not-begun-is (c .before .before .before .before .before .before .before .before .args .log .now) (c .before .before .before .before .before .before .before .before .args .stored) (sym (c .before .before .before .before .before .before .is-outside .ensures) ∙ c .before .before .before .before .before .if1 .left) (c .before .before .before .before .if2 .taken) (sym (c .before .before .begins-header .ensures) ∙ c .before .if3 .left)) (c .refused2 .ensures, refl))

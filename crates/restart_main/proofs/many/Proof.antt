@@ -1,4 +1,4 @@
--- `restart_main::many` is safe and ends: each turn goes on by one.
+-- Each turn goes on by one, and a record leaves the log as long as it was.
 use Prim.Native.Nat.{_-_}
 use mathlib.Core.Path.{_≡_}
 use borrow.Author.Needs.{needs}
@@ -12,14 +12,6 @@ many-spec =
     (tie.spec
     (λ log₀ end₀ k₀ t9 log end k. length log ≡ 65536)
     (λ log₀ end₀ k₀ t9 log end k. 1161 - k)
-    (λ c. search needs)
-    (λ c κs. search needs)
-    (λ c. search needs)
-    (λ c κs. search needs)
-    (λ c. search needs)
-    (λ c κs. search needs)
-    (λ c. search needs)
-    (λ c κs. search needs)
     (λ c. search needs)
     (λ c κs. search needs)
     (λ c. search needs)

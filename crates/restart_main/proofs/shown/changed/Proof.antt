@@ -1,4 +1,4 @@
--- `restart_main::shown::changed` is safe and ends: each turn goes on by one.
+-- Each turn goes on by one, and no sum grows beyond its bound.
 use Prim.Native.Nat.{_≤_, _-_}
 use borrow.Author.Needs.{needs}
 use Rattle.restart_main.proofs.shown.changed.Statement.{statement}

@@ -1,4 +1,4 @@
--- `restart_main::shown::restarted` is safe and ends: the part of the log that is lent is as long as it says.
+-- The part of the log that is lent is no longer than the log, and so as long as it says.
 use Prim.Native.Nat.{_≤_}
 use native.Mathlib.Omega.{arith}
 use mathlib.Core.Path.{sym}

@@ -1,0 +1,15 @@
+-- Past the end of the log `set` changes nothing.
+use mathlib.Core.Path.{sym}
+use borrow.Author.Needs.{needs}
+use lib.Seq.{set-out}
+use Rattle.log_bytes.proofs.put.Statement.{statement}
+use Rattle.log_bytes.proofs.put.Tie as tie
+
+pub put-spec : {M : Type 1} → statement M
+put-spec =
+    tie.close
+    (tie.spec
+    (λ c. search needs)
+    (λ c. search needs)
+    (λ c. search needs)
+    (λ c. sym (set-out _ _ _ (c .if1 .left))))
