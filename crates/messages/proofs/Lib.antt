@@ -1,2 +1,1 @@
 pub mod Coincide
-pub mod Types

@@ -6,8 +6,8 @@ use mathlib.Core.List.{List, [], _∷_, _++_}
 use lib.ListN.{length, take}
 use Rattle.rules.specs.Sound.{soundOf}
 use Rattle.rules.specs.Trace.{Traced, tracedOf}
-use Rattle.trace_line.specs.Promises.{newline, outputMost}
-use Rattle.trace_line.specs.Puts.{Puts}
+use Rattle.trace_line.specs.Promises.{newline}
+use Rattle.trace_parts.specs.Puts.{Puts, outputMost}
 use Rattle.trace_run.specs.declared.Left.{Left}
 use Rattle.trace_run.specs.Promises.{ObeysIn}
 use Rattle.rows.specs.Memory.{tableIn}

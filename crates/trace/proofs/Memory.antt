@@ -5,7 +5,7 @@ use mathlib.Core.Path.{_≡_, sym, ap, _∙_}
 use mathlib.Core.List.{List, [], _∷_, _++_}
 use lib.ListN.{length, take, drop, length-append, length-take}
 use lib.Seq.{sets-eq, length-sets, take-at, take-nil, take-append-add}
-use Rattle.trace_line.specs.Puts.{Puts}
+use Rattle.trace_parts.specs.Puts.{Puts}
 use Rattle.trace.specs.Sessions.{Keeps, lineKept}
 
 pub put-long : {bytes before after : List ℕ} {at end : ℕ} → Puts bytes before at end after → length after ≡ length before

@@ -6,7 +6,7 @@ use mathlib.Core.List.{List, _++_}
 use lib.ListN.{length, take, drop}
 use Rattle.rules.specs.Sound.{soundOf}
 use Rattle.rules.specs.Restart.{restartOf}
-use Rattle.trace_line.specs.Promises.{outputMost}
+use Rattle.trace_parts.specs.Puts.{outputMost}
 use Rattle.rows.specs.Memory.{tableIn}
 use Rattle.trace.specs.declared.Session.{Session}
 use Rattle.trace.specs.Program.{Stand, answered, afterBytes, afterAll, written}

@@ -3,7 +3,6 @@
 ghost use mathlib.Core.Path.{_≡_};
 ghost use Prim.Native.Nat.{_+_, _≤_, _<_, min};
 ghost use lib.ListN.{length};
-ghost use Rattle.trace_line.specs.Puts.{Puts};
 ghost use Rattle.trace.specs.Sessions.{Fits, Ready, Keeps, Answers, Takes, Writes, TakesAll, Finishes, Starts, lineKept};
 use libc::STDIN_FILENO;
 use libc::STDOUT_FILENO;
@@ -38,26 +37,13 @@ fn least(a: usize, b: usize) -> usize
     if a < b { a } else { b }
 }
 
-// Bytes are stored at a place; gives the place behind them.
-fn put(buffer: &mut [u8], at: usize, bytes: &[u8]) -> usize
-    requires { ⌜ at + length (now bytes) ≤ length (now buffer) ⌝ }
-    ensures { λ end. ⌜ Puts (now (bytes .entry)) (now (buffer .entry)) at end (now (buffer .exit)) ⌝ }
-{
-    let mut i: usize = 0;
-    while i < bytes.len() {
-        buffer[at + i] = bytes[i];
-        i += 1;
-    }
-    at + i
-}
-
 // More bytes of the present line; gives how many of it are kept then.
 fn keep(line: &mut [u8], kept: usize, more: &[u8]) -> usize
     requires { ⌜ (kept ≤ lineKept) × (length (now line) ≡ lineKept) ⌝ }
     ensures { λ r. ⌜ Keeps kept (now (line .entry)) (now (more .entry)) r (now (line .exit)) ⌝ }
 {
     let n = least(more.len(), KEPT - kept);
-    put(line, kept, &more[..n])
+    trace_parts::put_text(line, kept, &more[..n])
 }
 
 // The present line is whole.
@@ -85,7 +71,7 @@ fn answer(
         &mut buffer,
     );
     let size = o.size;
-    let waiting = put(output, s.waiting, &buffer[..size]);
+    let waiting = trace_parts::put_text(output, s.waiting, &buffer[..size]);
     Session {
         capacity: o.capacity,
         used: o.used,

@@ -1,6 +1,3 @@
-pub mod Words
-pub mod Commands
-pub mod Digits
-pub mod Puts
+mod Signals
 pub mod Lines
 pub mod Coincide

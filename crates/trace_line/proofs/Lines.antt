@@ -17,10 +17,10 @@ use Rattle.rules.specs.Sizes.{signalsMost, largestNumber}
 use Rattle.rules.specs.Signals.{signal, rowOf}
 use Rattle.rules.proofs.Count.{pad-take}
 use Rattle.rules.specs.Trace.{space, text, nameText, digits, decimal, signalTexts, outputOf}
-use Rattle.trace_line.specs.Puts.{Puts, signalText, digitsMost, signalMost}
-use Rattle.trace_line.specs.Promises.{IsWriting, signalsOf, newline, outputLine, outputMost}
-use Rattle.trace_line.proofs.Digits.{few-digits, most-digits}
-use Rattle.trace_line.proofs.Puts.{put-both, put-byte, signal-most}
+use Rattle.trace_parts.specs.Puts.{Puts, signalText, digitsMost, signalMost, outputMost}
+use Rattle.trace_line.specs.Promises.{IsWriting, signalsOf, newline, outputLine}
+use Rattle.trace_parts.proofs.Digits.{few-digits, most-digits}
+use Rattle.trace_parts.proofs.Puts.{put-both, put-byte, signal-most}
 
 -- ── the longest line ────────────────────────────────────────────────────────────────────────────────────────────
 

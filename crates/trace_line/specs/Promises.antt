@@ -8,6 +8,7 @@ use Rattle.rules.specs.declared.Command.{Command}
 use Rattle.rules.specs.declared.Signal.{Signal}
 use Rattle.rules.specs.declared.Signals.{Signals}
 use Rattle.rules.specs.Trace.{commandOf, outputOf}
+use Rattle.trace_parts.specs.Puts.{outputMost}
 
 -- a line, without its newline, is read as this command
 abbrev pub IsReading : List ℕ → Command → Type 0
@@ -23,10 +24,6 @@ newline = 0x0A
 -- an output line is written with its newline, so that the program has nothing to add
 unfoldable pub outputLine : ℕ → ℕ → Signals → List ℕ
 outputLine why used signals = outputOf why used (signalsOf signals) ++ (newline ∷ [])
-
--- no output line is longer: 255, 4294967295, 17 and 17 times answer-committed:4294967295
-abbrev pub outputMost : ℕ
-outputMost = 494
 
 -- the line stands at the start of the lent buffer, and nothing behind it is changed
 pub record IsWriting (why used : ℕ) (signals : Signals) (before : List ℕ) (size : ℕ) (after : List ℕ) : Type 0 where

@@ -8,7 +8,8 @@ use lib.Seq.{sets}
 use Rattle.rules.specs.declared.Table.{Table}
 use Rattle.rules.specs.declared.Signals.{Signals}
 use Rattle.rules.specs.Trace.{Traced}
-use Rattle.trace_line.specs.Promises.{IsWriting, newline, outputMost}
+use Rattle.trace_line.specs.Promises.{IsWriting, newline}
+use Rattle.trace_parts.specs.Puts.{outputMost}
 use Rattle.rows.specs.Memory.{tableIn}
 use Rattle.trace_run.specs.declared.Left.{Left}
 use Rattle.trace_run.specs.declared.Obeyed.{Obeyed}

@@ -18,4 +18,4 @@ answer-spec =
     (λ c κs. simp length-take (omega (arith, c .before .before .before .before .obey-in .ensures .0 .within)))
     (λ c. search needs)
     (λ c. search needs)
-    (λ c. answer-stands (c .before .before .before .before .before .before .before .before .before .before .before .before .before .before .before .before .pre) refl (c .before .before .before .before .before .before .before .obey-in .ensures .0) (c .before .before .before .before .before .before .before .obey-in .ensures .1) (c .before .before .put .ensures)))
+    (λ c. answer-stands (c .before .before .before .before .before .before .before .before .before .before .before .before .before .before .before .before .pre) refl (c .before .before .before .before .before .before .before .obey-in .ensures .0) (c .before .before .before .before .before .before .before .obey-in .ensures .1) (c .before .before .put-text .ensures)))

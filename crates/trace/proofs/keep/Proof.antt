@@ -17,4 +17,4 @@ keep-spec =
     (λ c. search needs)
     (λ c.
     let s = c .before .before .before .before .before .before .before .before in
-    kept-more (c .before .before .put .ensures) (c .before .before .before .before .before .least .ensures) (s .pre .0) (s .pre .1)))
+    kept-more (c .before .before .put-text .ensures) (c .before .before .before .before .before .least .ensures) (s .pre .0) (s .pre .1)))

@@ -4,7 +4,7 @@ use denote.Ref.{now}
 use lib.ListN.{take}
 use mathlib.Core.List.{_∷_}
 use Rattle.rules.specs.Trace.{wordsRead}
-use Rattle.trace_line.proofs.Words.{more-words, last-word, some-words}
+use Rattle.trace_words.proofs.Words.{more-words, last-word, some-words}
 use Rattle.trace_line.proofs.after_five.Statement.{statement}
 use Rattle.trace_line.proofs.after_five.Tie as tie
 

@@ -6,7 +6,7 @@ use lib.Seq.{length-take-le}
 use mathlib.Core.Path.{sym}
 use mathlib.Core.List.{_∷_}
 use Rattle.rules.specs.Trace.{wordsRead}
-use Rattle.trace_line.proofs.Words.{more-words, last-word}
+use Rattle.trace_words.proofs.Words.{more-words, last-word}
 use Rattle.trace_line.proofs.after_three.Statement.{statement}
 use Rattle.trace_line.proofs.after_three.Tie as tie
 

@@ -6,7 +6,7 @@ use native.Mathlib.Omega.{arith}
 use mathlib.Core.Path.{sym}
 use lib.Seq.{length-take-le}
 use Rattle.rules.specs.Trace.{commandOf, wordsRead}
-use Rattle.trace_line.proofs.Words.{more-words, last-word}
+use Rattle.trace_words.proofs.Words.{more-words, last-word}
 use Rattle.trace_line.proofs.read_line.Statement.{statement}
 use Rattle.trace_line.proofs.read_line.Tie as tie
 

@@ -6,9 +6,8 @@ use Rattle.lists.proofs.Loops.{long}
 use mathlib.Core.Path.{_≡_}
 use lib.ListN.{length}
 use Rattle.rules.specs.Sizes.{signalsMost}
-use Rattle.trace_line.specs.Puts.{digitsMost}
-use Rattle.trace_line.specs.Promises.{outputMost}
-use Rattle.trace_line.proofs.Digits.{few-digits, most-digits}
+use Rattle.trace_parts.specs.Puts.{digitsMost, outputMost}
+use Rattle.trace_parts.proofs.Digits.{few-digits, most-digits}
 use Rattle.trace_line.proofs.Lines.{taken-most, line-written}
 use Rattle.trace_line.proofs.write_line.Statement.{statement}
 use Rattle.trace_line.proofs.write_line.Tie as tie

@@ -1,0 +1,22 @@
+-- Four times both is `every` of five.
+use mathlib.Core.Path.{_≡_, refl}
+use mathlib.Core.Bool.{Bool, true, false, _&&_}
+use borrow.Author.Needs.{needs}
+use Rattle.lists.specs.Lists.{every}
+use Rattle.message_tests.proofs.all.Statement.{statement}
+use Rattle.message_tests.proofs.all.Tie as tie
+
+last : (b : Bool) → b ≡ (b && true)
+last true = refl
+last false = refl
+
+pub all-spec : {M : Type 1} → statement M
+unfolding every
+all-spec =
+    tie.close
+    (tie.spec
+    (λ c κs. search needs)
+    (λ c κs. search needs)
+    (λ c κs. search needs)
+    (λ c κs. search needs)
+    (λ c. rw (c .both4 .ensures, c .before .both3 .ensures, c .before .before .both2 .ensures, c .before .before .before .both .ensures, ← last)))

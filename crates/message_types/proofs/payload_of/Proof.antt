@@ -1,0 +1,22 @@
+-- A search in the table of types, by its rule.
+use Prim.Native.Nat.{_-_}
+use borrow.Author.Needs.{needs}
+use Rattle.message_types.proofs.Types.{table, Sought, sought-start, sought-next, sought-here, sought-end}
+use Rattle.message_types.proofs.payload_of.Statement.{statement}
+use Rattle.message_types.proofs.payload_of.Tie as tie
+
+pub payload-of-spec : {M : Type 1} → statement M
+unfolding table
+payload-of-spec =
+    tie.close
+    (tie.spec
+    (λ kind i₀ i. Sought kind i)
+    (λ kind i₀ i. 8 - i)
+    (λ c. sought-start)
+    (λ c. search needs)
+    (λ c. search needs)
+    (λ c. sought-here _ (c .before .before .before .before .loop .inv) (c .before .before .before .loop-test .taken) (c .if1 .taken))
+    (λ c. search needs)
+    (λ c. search needs)
+    (λ c. sought-next _ (c .before .before .before .before .loop .inv) (c .before .before .before .loop-test .taken) (c .if1 .left))
+    (λ c. sought-end (c .before .loop .inv) (c .loop-test .left)))
