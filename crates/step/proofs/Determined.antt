@@ -9,8 +9,8 @@ use Rattle.rules.specs.declared.Stepped.{Stepped}
 use Rattle.rules.specs.Step.{IsStep}
 use Rattle.rows.specs.Memory.{tableIn, OfBytes}
 use Rattle.rows.proofs.Determined.{table-determined}
-use Rattle.step.specs.declared.Answer.{Answer}
-use Rattle.step.specs.StepIn.{IsStepIn}
+use Rattle.entering.specs.declared.Answer.{Answer}
+use Rattle.entering.specs.StepIn.{IsStepIn}
 
 pub step-determined : (tb : Table) (e : Event) (log : List ℕ) {r s : Stepped} {after later : List ℕ} → IsStep tb e log r after → IsStep tb e log s later → (r ≡ s) × (after ≡ later)
 step-determined tb e log (p, q) (u, v) = (p ∙ sym u, q ∙ sym v)
