@@ -1,4 +1,4 @@
--- What is left alone says nothing; and a change of what is held is a change of its table, and keeps the place and the used length.
+-- What is left alone equals what was given; and the change of a holding is, by `alone-held`, the change of its table, so that what follows of the one follows of the other.
 use Prim.Native.Nat.{ℕ}
 use mathlib.Core.Path.{_≡_, refl}
 use mathlib.Core.List.{List, []}

@@ -30,7 +30,7 @@ use Rattle.endings.specs.Gives.{Gives}
 
 -- it counts itself, if it is open
 module _ (h : Holding) {so : Bool} {n : ℕ} (test : so ≡ isOpen (h .transaction .state) (held (h .place) (alone h))) (more : n ≡ moreOf so 0) where
-  pub open-alone : Placed h → n ≡ openCount (alone h)
+  pub open-alone : Placed (h .place) → n ≡ openCount (alone h)
   open-alone i = more ∙ (ap (λ b. moreOf b 0) test ∙ sym (one-open h i))
 
   pub open-most : n ≤ 1

@@ -23,7 +23,7 @@ use signals::Which;
 
 // For a commit record of n entries, and the forget records of this transaction and of the open ones. Those of the others are off the capacity already.
 fn lacks_room(h: Holding, n: u8) -> bool
-    requires { ⌜ Placed h ⌝ }
+    requires { ⌜ Placed (h .place) ⌝ }
     ensures { λ r. ⌜ r ≡ lacksRoom n (alone h) ⌝ }
 {
     let so = holdings::is_open(h);

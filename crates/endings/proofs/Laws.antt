@@ -30,7 +30,7 @@ module _ (p : ℕ) (tb : Table) (log : List ℕ) {x : Transaction} (at : x ≡ t
   unfolding endOf
   is-shut t = let o : isOpen (stateAt p tb) (held p tb) ≡ false = rw at at t in rw o
 
-module _ (h : Holding) (i : Placed h) (log : List ℕ) {after : Holding} {b : Bool} (test : b ≡ isOpen (h .transaction .state) (held (h .place) (alone h))) (so : after ≡ withTransaction (ended (h .transaction)) (withHeld freed h)) where
+module _ (h : Holding) (i : Placed (h .place)) (log : List ℕ) {after : Holding} {b : Bool} (test : b ≡ isOpen (h .transaction .state) (held (h .place) (alone h))) (so : after ≡ withTransaction (ended (h .transaction)) (withHeld freed h)) where
   empty : alone after ≡ emptied (h .place) (alone h)
   empty = ap alone so ∙ alone-emptied h
 

@@ -25,4 +25,4 @@ abbrev pub usedMost : ℕ
 usedMost = 1000000
 
 abbrev pub Ready : Holding → Type 0
-Ready h = Placed h × (h .used ≤ usedMost)
+Ready h = Placed (h .place) × (h .used ≤ usedMost)

@@ -40,6 +40,6 @@ module _ {A : Type 0} (f : ℕ → A → Bool) (d x : A) (empty : (k : ℕ) → 
       (λ e. let q : k ≡ p = eqb-true k p e in rw (e, none-behind (suc k) n (omega arith), q) (by-test (f p x) (λ t. rw t) (λ t. rw t)))
       (λ e. let q : k ≡ p → ⊥ = eqb-false k p e in rw (e, empty k) (one-place (suc k) n (omega arith) (omega arith)))
 
-pub one-open : (h : Holding) → Placed h → openCount (alone h) ≡ moreOf (isOpen (h .transaction .state) (held (h .place) (alone h))) 0
+pub one-open : (h : Holding) → Placed (h .place) → openCount (alone h) ≡ moreOf (isOpen (h .transaction .state) (held (h .place) (alone h))) 0
 unfolding alone openPlaces
 one-open h (low, high) = one-place (λ q y. isOpen (y .state) (held q (alone h))) noTransaction (h .transaction) (λ k. refl) (h .place) 1 transactionPlaces low (omega arith)

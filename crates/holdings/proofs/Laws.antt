@@ -12,10 +12,10 @@ use Rattle.rules.specs.Table.{emptyTransactions, noTransaction, transactionAt, 
 use Rattle.holdings.specs.declared.Holding.{Holding}
 use Rattle.holdings.specs.Holdings.{alone, Placed, withHeld, withTransaction, withUsed}
 
-place-there : (h : Holding) → Placed h → IsPlace emptyTransactions (h .place)
+place-there : (h : Holding) → Placed (h .place) → IsPlace emptyTransactions (h .place)
 place-there h (low, high) = record { low = low; high = high }
 
-pub alone-at : (h : Holding) → Placed h → transactionAt (h .place) (alone h) ≡ h .transaction
+pub alone-at : (h : Holding) → Placed (h .place) → transactionAt (h .place) (alone h) ≡ h .transaction
 unfolding alone
 alone-at h i = at-change-same (λ x. h .transaction) noTransaction emptyTransactions (place-there h i)
 

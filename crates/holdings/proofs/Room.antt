@@ -79,7 +79,7 @@ module _ (tb : Table) (p : ℕ) (there : IsPlace (tb .transactions) p) where
       let z : openAt p (within tb p nothing) ≡ false = ap (λ x. isOpen (x .state) (held p (within tb p nothing))) (at-change-same (λ x. noTransaction) noTransaction (tb .transactions) there) in
       omega (arith, rw z at (open-within nothing (each-nothing _)))
 
-  module _ (h : Holding) (placed : Placed h) (is : h .place ≡ p) (fits : Fits tb p (alone h)) (o : Owned p (alone h)) where
+  module _ (h : Holding) (placed : Placed (h .place)) (is : h .place ≡ p) (fits : Fits tb p (alone h)) (o : Owned p (alone h)) where
     open-there : openAt p (within tb p (alone h)) ≡ isOpen (h .transaction .state) (held (h .place) (alone h))
     open-there = λ i. isOpen (state i) (same-held i)
       where

@@ -18,9 +18,9 @@ alone h = record {
   used = h .used;
 }
 
--- it has a place
-abbrev pub Placed : Holding → Type 0
-Placed h = (1 ≤ h .place) × (h .place ≤ transactionPlaces)
+-- one of a transaction
+abbrev pub Placed : ℕ → Type 0
+Placed p = (1 ≤ p) × (p ≤ transactionPlaces)
 
 -- ── changing ────────────────────────────────────────────────────────────────────────────────────────────────────
 

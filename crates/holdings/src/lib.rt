@@ -11,6 +11,7 @@ use passes::Census;
 use passes::Change;
 use rules::Enlistment;
 use rules::Transaction;
+use rules::sizes;
 use rules::transaction_state;
 
 pub struct Holding {
@@ -37,7 +38,7 @@ pub fn count(h: Holding) -> Census
         told_abort: 0,
         done: 0,
     };
-    let mut i: usize = 16;
+    let mut i = sizes::HELD;
     while 0 < i {
         i -= 1;
         let e = h.enlistments[i];
@@ -65,7 +66,7 @@ pub fn change(h: Holding, change: Change) -> Holding
     let p = h.place;
     let mut u = h;
     let mut i: usize = 0;
-    while i < 16 {
+    while i < sizes::HELD {
         let k = i;
         let e = u.enlistments[k];
         let mine = e.holder == p;

@@ -14,6 +14,10 @@ use rules::Enlistment;
 use rules::Table;
 use rules::enlistment_state;
 use rules::kinds;
+use rules::sizes;
+
+// A place is a byte.
+const ENLISTMENTS: u8 = sizes::ENLISTMENTS as u8;
 
 fn is_durable_of(e: Enlistment, rm: [u8; 16]) -> bool
     ensures { λ r. ⌜ r ≡ isDurableOf rm e ⌝ }
@@ -59,7 +63,7 @@ pub fn place_elsewhere(table: Table, rm: [u8; 16]) -> u8
     ensures { λ r. ⌜ r ≡ placeOf (λ e. isUndone rm e && not (isIn failedToNotify e)) (table .enlistments) ⌝ }
 {
     let mut i: u8 = 0;
-    while i < 128 {
+    while i < ENLISTMENTS {
         let k = i as usize;
         let e = table.enlistments[k];
         let hit = is_elsewhere(e, rm);
@@ -77,7 +81,7 @@ pub fn undone(h: Holding, rm: [u8; 16]) -> Enlistment
 {
     let p = h.place;
     let mut i: usize = 0;
-    while i < 16 {
+    while i < sizes::HELD {
         let e = h.enlistments[i];
         let hit = is_undone_held(e, p, rm);
         if hit {
@@ -109,7 +113,7 @@ pub fn tell_again(h: Holding, rm: [u8; 16]) -> Holding
     let p = h.place;
     let mut u = h;
     let mut i: usize = 0;
-    while i < 16 {
+    while i < sizes::HELD {
         let k = i;
         let e = u.enlistments[k];
         let mine = e.holder == p;
@@ -142,7 +146,7 @@ pub fn all_done_for(table: Table, rm: [u8; 16]) -> Table
 {
     let mut u = table;
     let mut i: usize = 0;
-    while i < 128 {
+    while i < sizes::ENLISTMENTS {
         let e = u.enlistments[i];
         let f = done_for(e, rm);
         u.enlistments[i] = f;

@@ -12,6 +12,7 @@ use rules::Table;
 use rules::enlistment_state;
 use rules::kinds;
 use rules::marks;
+use rules::sizes;
 
 // How many a transaction holds, and how many of them are such.
 pub struct Census {
@@ -74,7 +75,7 @@ pub fn count_held(table: Table, p: u8) -> Census
         told_abort: 0,
         done: 0,
     };
-    let mut i: usize = 128;
+    let mut i = sizes::ENLISTMENTS;
     while 0 < i {
         i -= 1;
         let e = table.enlistments[i];

@@ -28,19 +28,19 @@ use Rattle.rules.proofs.Frames.{held-other, held-shorter}
 use Rattle.rules.proofs.Local.{through, end-through}
 use Rattle.rules.proofs.Count.{end-each-quiet}
 use Rattle.holdings.specs.declared.Holding.{Holding}
-use Rattle.holdings.specs.Holdings.{alone}
+use Rattle.holdings.specs.Holdings.{alone, Placed}
 use Rattle.holdings.specs.Within as Within
 use Rattle.holdings.specs.Within.{taken, refill}
-use Rattle.holdings.proofs.Laws.{alone-at}
 use Rattle.holdings.proofs.Within.{passes-through}
 use Rattle.holdings.proofs.Taken.{taken-fits, taken-back}
 use Rattle.rows.specs.Memory.{transactionIn, enlistmentIn, tableIn}
+use Rattle.lent_tables.proofs.Within.{put-within}
 use Rattle.orders.specs.declared.Order.{Order}
 use Rattle.orders.specs.Orders.{orderOf}
 use Rattle.orders.proofs.Laws.{order-take}
 use Rattle.endings.specs.Gives as gives
 use Rattle.reenlisting.specs.Finished.{isFinished}
-use Rattle.reenlisting.specs.Ends.{Placed, Few, usedMost, Ready, Leaves}
+use Rattle.reenlisting.specs.Ends.{Few, usedFirst, Ready, Leaves}
 
 -- ── one end ─────────────────────────────────────────────────────────────────────────────────────────────────────
 
@@ -63,13 +63,6 @@ module _ (p : ℕ) (tb : Table) (log : List ℕ) (placed : Placed p) (long : len
   end-within =
       ap (λ t. endOf p t log) (sym (taken-back p 0 tb (placed .0) (placed .1) few))
       ∙ end-through (passes-through tb p (record { low = placed .0; high = omega (arith, placed .1, long) })) (alone (taken p 0 tb)) log (taken-fits p 0 tb (placed .0) (placed .1) few)
-
--- what is put back into the memory is put into its table
-back-within : (heads rows heads′ rows′ : List (List ℕ)) (capacity used : ℕ) (h : Holding) → Placed (h .place)
-    → map transactionIn heads′ ≡ changeAt (h .place) (λ x. h .transaction) (map transactionIn heads) → map enlistmentIn rows′ ≡ refill (heldBy (h .place)) (h .enlistments) (map enlistmentIn rows)
-    → tableIn heads′ rows′ capacity (h .used) ≡ Within.within (tableIn heads rows capacity used) (h .place) (alone h)
-unfolding alone
-back-within heads rows heads′ rows′ capacity used h placed e f = rw (e, f, alone-at h placed)
 
 -- ── the loop ────────────────────────────────────────────────────────────────────────────────────────────────────
 
@@ -105,7 +98,7 @@ module _ {n : ℕ} {ps : List ℕ} {tb₀ : Table} {log₀ : List ℕ} {capacity
     pub ended-few : length (held p (tableIn heads rows capacity used)) ≤ heldMost
     ended-few = e .few p (ended-place .0)
 
-    pub ended-ready : {h : Holding} → h ≡ taken p 0 (tableIn heads rows capacity used) → n ≤ transactionPlaces → tb₀ .used ≤ usedMost → gives.Ready h
+    pub ended-ready : {h : Holding} → h ≡ taken p 0 (tableIn heads rows capacity used) → n ≤ transactionPlaces → tb₀ .used ≤ usedFirst → gives.Ready h
     ended-ready t l u = rw t (ended-place, omega (arith, e .used-most, e .within))
 
     pub ended-back : {h : Holding} {q : ℕ} → h ≡ taken p 0 (tableIn heads rows capacity used) → q ≡ h .place → count (heldBy q) (map enlistmentIn rows) ≤ heldMost
@@ -139,7 +132,7 @@ module _ {n : ℕ} {ps : List ℕ} {tb₀ : Table} {log₀ : List ℕ} {capacity
         whole = end-within p tb log ended-place (length-map heads transactionIn ∙ e .heads-long) ended-few
 
         table : tableIn heads′ rows′ capacity (h′ .used) ≡ endOf p tb log .table
-        table = back-within heads rows heads′ rows′ capacity used h′ (subst Placed (sym (l .place)) ended-place) he re ∙ ap (λ t. Within.within tb (h′ .place) t) (l .table) ∙ ap (λ q. Within.within tb q (endOf p (alone (taken p 0 tb)) log .table)) (l .place) ∙ sym (ap (λ o. o .table) whole)
+        table = put-within heads rows heads′ rows′ capacity used h′ (subst Placed (sym (l .place)) ended-place) he re ∙ ap (λ t. Within.within tb (h′ .place) t) (l .table) ∙ ap (λ q. Within.within tb q (endOf p (alone (taken p 0 tb)) log .table)) (l .place) ∙ sym (ap (λ o. o .table) whole)
 
 -- ── what is Done, and then over ─────────────────────────────────────────────────────────────────────────────────
 
@@ -174,7 +167,7 @@ module _ (rm : Id) {heads rows : List (List ℕ)} (rows′ : List (List ℕ)) {c
   done-table = ap (λ es. record { transactions = map transactionIn heads; enlistments = es; capacity = capacity; used = used }) (e ∙ ap (λ u. u .enlistments) done-is)
 
   pub done-ready : Ready heads rows′ capacity used
-  done-ready = record { heads-long = ready .heads-long; rows-long = long; used-most = ready .used-most; few = subst Few (sym done-table) (done-few rm (tableIn heads rows capacity used) (ready .few)) }
+  done-ready = record { heads-long = ready .heads-long; rows-long = long; used-first = ready .used-first; few = subst Few (sym done-table) (done-few rm (tableIn heads rows capacity used) (ready .few)) }
 
   module _ {o : Order} (q : o ≡ orderOf (finished done)) (few : o .count ≤ transactionPlaces) where
     ordered : take (o .count) (o .items) ≡ finished (doneTable rm (tableIn heads rows capacity used))

@@ -9,22 +9,18 @@ use Rattle.rules.specs.Table.{held}
 use Rattle.rules.specs.Events.{Outcome}
 use Rattle.rows.specs.Memory.{tableIn}
 
--- of a transaction
-abbrev pub Placed : ℕ → Type 0
-Placed p = (1 ≤ p) × (p ≤ transactionPlaces)
-
 -- "at most 16 enlistments"
 abbrev pub Few : Table → Type 0
 Few tb = (p : ℕ) → 1 ≤ p → length (held p tb) ≤ heldMost
 
 -- so far below the largest number that what all the ends add to the used length fits
-abbrev pub usedMost : ℕ
-usedMost = 100000
+abbrev pub usedFirst : ℕ
+usedFirst = 100000
 
 pub record Ready (heads rows : List (List ℕ)) (capacity used : ℕ) : Type 0 where
   pub heads-long : length heads ≡ transactionPlaces
   pub rows-long : length rows ≡ enlistmentPlaces
-  pub used-most : used ≤ usedMost
+  pub used-first : used ≤ usedFirst
   pub few : Few (tableIn heads rows capacity used)
 
 -- the memory holds the outcome's table, with this used length; and the log is as the outcome leaves it

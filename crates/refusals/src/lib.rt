@@ -21,13 +21,11 @@ use rules::Act;
 use rules::Enlistment;
 use rules::kinds;
 use rules::refusal;
+use rules::sizes;
 use rules::transaction_state;
 
-fn or(a: bool, b: bool) -> bool
-    ensures { λ r. ⌜ r ≡ (a || b) ⌝ }
-{
-    if a { true } else { b }
-}
+// A count is a byte.
+const HELD: u8 = sizes::HELD as u8;
 
 fn is_either_zero(a: [u8; 16], b: [u8; 16]) -> bool
     ensures { λ r. ⌜ r ≡ (isZero a || isZero b) ⌝ }
@@ -43,7 +41,7 @@ fn is_either_zero(a: [u8; 16], b: [u8; 16]) -> bool
 fn is_early(state: u8) -> bool
     ensures { λ r. ⌜ r ≡ isEarly state ⌝ }
 {
-    or(
+    basics::either(
         state == transaction_state::ACTIVE,
         state == transaction_state::PHASE_ZERO,
     )
@@ -52,7 +50,7 @@ fn is_early(state: u8) -> bool
 fn is_over(state: u8) -> bool
     ensures { λ r. ⌜ r ≡ isOver state ⌝ }
 {
-    or(state == 0, state == transaction_state::ABORTING)
+    basics::either(state == 0, state == transaction_state::ABORTING)
 }
 
 // Whether Enlist finds its number held, or a second durable enlistment of its resource manager in the transaction.
@@ -61,7 +59,7 @@ pub fn is_already_held(held: bool, second: bool, kind: u8) -> bool
 {
     let durable = kind == kinds::DURABLE;
     if durable {
-        return or(held, second);
+        return basics::either(held, second);
     }
     held
 }
@@ -70,7 +68,7 @@ pub fn is_already_held(held: bool, second: bool, kind: u8) -> bool
 pub fn is_full(vacant: u8, held: u8) -> bool
     ensures { λ r. ⌜ r ≡ (eqb vacant 0 || leb heldMost held) ⌝ }
 {
-    or(vacant == 0, 16 <= held)
+    basics::either(vacant == 0, HELD <= held)
 }
 
 // The checks that are every event's: 0 leaves those of the event.
@@ -117,7 +115,7 @@ pub fn enlist(
     ensures { λ r. ⌜ ((tb : Table) (k : ℕ) → named ≡ placeNamed id tb → state ≡ stateAt named tb → (eqb n 0 ≡ false → already ≡ heldAlready tb named rm n k) → full ≡ fullFor tb named → r ≡ firstOf (enlistChecks tb id rm n k)) ⌝ }
 {
     let either = is_either_zero(id, rm);
-    let zero = or(either, n == 0);
+    let zero = basics::either(either, n == 0);
     if zero {
         return refusal::ZERO_NAMED;
     }

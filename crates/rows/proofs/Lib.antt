@@ -1,4 +1,3 @@
 pub mod Spelling
-pub mod Taking
-pub mod Putting
 pub mod Mapped
+pub mod Determined

@@ -1,8 +1,10 @@
 -- How memory holds a table: 17 bytes a transaction, its identifier and its state; 24 bytes an enlistment, its RM, its number, low byte first,
 -- its holder, kind, mark and state.
-use Prim.Native.Nat.{ℕ, _+_, _*_}
+use Prim.Native.Nat.{ℕ, _+_, _*_, _<_}
+use mathlib.Core.Path.{_≡_}
 use mathlib.Core.List.{List, map}
-use lib.ListN.{getD, take}
+use lib.ListN.{length, getD, take}
+use Rattle.lists.specs.Members.{Each}
 use Rattle.rules.specs.declared.Transaction.{Transaction}
 use Rattle.rules.specs.declared.Enlistment.{Enlistment}
 use Rattle.rules.specs.declared.Table.{Table}
@@ -25,3 +27,13 @@ enlistmentIn row = record {
 
 abbrev pub tableIn : List (List ℕ) → List (List ℕ) → ℕ → ℕ → Table
 tableIn heads rows capacity used = record { transactions = map transactionIn heads; enlistments = map enlistmentIn rows; capacity = capacity; used = used }
+
+-- a value of the type [u8; n]
+pub record Bytes (n : ℕ) (bs : List ℕ) : Type 0 where
+  pub long : length bs ≡ n
+  pub small : Each (λ b. b < 256) bs
+
+-- values of the types that are lent
+pub record OfBytes (heads rows : List (List ℕ)) : Type 0 where
+  pub each-head : Each (Bytes 17) heads
+  pub each-row : Each (Bytes 24) rows

@@ -1,11 +1,12 @@
 -- Two results of `obey` on the same line, table, log and buffer coincide, and so do the logs and buffers that they leave: the promise says what each of them is. Of `obey_in` it is so too,
--- and the memory that two of its calls leave holds the same table.
+-- and the memory that two of its calls leave is the same: it holds the same table, which determines its bytes.
 use Prim.Native.Nat.{ℕ}
 use mathlib.Core.Path.{_≡_, sym, ap, _∙_}
 use mathlib.Core.List.{List}
 use Rattle.rules.specs.Sound.{soundOf}
 use Rattle.rules.specs.Trace.{Traced}
-use Rattle.rows.specs.Memory.{tableIn}
+use Rattle.rows.specs.Memory.{tableIn, OfBytes}
+use Rattle.rows.proofs.Determined.{table-determined}
 use Rattle.trace_run.specs.declared.Left.{Left}
 use Rattle.trace_run.specs.declared.Obeyed.{Obeyed}
 use Rattle.trace_run.specs.Promises.{Obeys, ObeysIn}
@@ -16,11 +17,12 @@ pub obeyings-coincide : {t : Traced} {before : List ℕ} {o p : Obeyed} {log oth
 obeyings-coincide a b =
     ((λ i. record { table = (a .table ∙ sym (b .table)) i; size = (a .sized ∙ sym (b .sized)) i }), a .left ∙ sym (b .left), a .bytes ∙ sym (b .bytes))
 
-pub obeyings-in-coincide : {t : Traced} {before : List ℕ} {o p : Left} {heads rows heads′ rows′ : List (List ℕ)} {log other after later : List ℕ}
+pub obeyings-in-coincide : {t : Traced} {before : List ℕ} {o p : Left} {heads rows heads′ rows′ : List (List ℕ)} {log other after later : List ℕ} → OfBytes heads rows → OfBytes heads′ rows′
     → ObeysIn t before o heads rows log after × (o .sound ≡ soundOf (tableIn heads rows (o .capacity) (o .used)))
     → ObeysIn t before p heads′ rows′ other later × (p .sound ≡ soundOf (tableIn heads′ rows′ (p .capacity) (p .used)))
-    → (o ≡ p) × (tableIn heads rows (o .capacity) (o .used) ≡ tableIn heads′ rows′ (p .capacity) (p .used)) × (log ≡ other) × (after ≡ later)
-obeyings-in-coincide (a, s) (b, t) =
+    → (o ≡ p) × (heads ≡ heads′) × (rows ≡ rows′) × (log ≡ other) × (after ≡ later)
+obeyings-in-coincide c d (a, s) (b, t) =
     let same = a .table ∙ sym (b .table) in
     let known = s ∙ ap soundOf same ∙ sym t in
-    ((λ i. record { capacity = same i .capacity; used = same i .used; sound = known i; size = (a .sized ∙ sym (b .sized)) i }), same, a .left ∙ sym (b .left), a .bytes ∙ sym (b .bytes))
+    let (h, w) = table-determined c d same in
+    ((λ i. record { capacity = same i .capacity; used = same i .used; sound = known i; size = (a .sized ∙ sym (b .sized)) i }), h, w, a .left ∙ sym (b .left), a .bytes ∙ sym (b .bytes))

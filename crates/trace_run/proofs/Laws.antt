@@ -21,8 +21,8 @@ use Rattle.rules.specs.Trace.{Traced, outputOf, obeyed}
 use Rattle.rules.proofs.Preserved.{step-few-signals}
 use Rattle.trace_line.proofs.Lines.{row-output}
 use Rattle.rows.specs.Memory.{transactionIn, enlistmentIn, tableIn}
-use Rattle.step.specs.declared.Answer.{Answer}
-use Rattle.step.specs.StepIn.{IsStepIn}
+use Rattle.entering.specs.declared.Answer.{Answer}
+use Rattle.entering.specs.StepIn.{IsStepIn}
 use Rattle.trace_run.specs.declared.Left.{Left}
 use Rattle.trace_run.specs.Promises.{Holds, Answers, Obeys, ObeysIn}
 

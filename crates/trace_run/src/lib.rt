@@ -39,9 +39,9 @@ pub fn put_table(table: Table, heads: &mut [[u8; 17]; 32], rows: &mut [[u8; 24];
     ensures { λ r. ⌜ Holds (now (heads .exit)) (now (rows .exit)) table ⌝ }
 {
     let transactions = table.transactions;
-    rows::heads_of(transactions, heads);
+    lent_tables::heads_of(transactions, heads);
     let enlistments = table.enlistments;
-    rows::rows_of(enlistments, rows);
+    lent_tables::rows_of(enlistments, rows);
 }
 
 fn answered(
@@ -155,7 +155,7 @@ pub fn obey(line: &[u8], table: Table, log: &mut [u8], buffer: &mut [u8; OUTPUT]
         log,
         buffer,
     );
-    let after = rows::table_in(&heads, &rows, left.capacity, left.used);
+    let after = lent_tables::table_in(&heads, &rows, left.capacity, left.used);
     Obeyed {
         table: after,
         size: left.size,

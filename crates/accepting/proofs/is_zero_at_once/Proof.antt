@@ -1,4 +1,4 @@
--- Two tests decide.
+-- Where the kind is not phase zero the conjunction is false, and else it is its second test.
 use borrow.Author.Needs.{needs}
 use Rattle.accepting.proofs.is_zero_at_once.Statement.{statement}
 use Rattle.accepting.proofs.is_zero_at_once.Tie as tie

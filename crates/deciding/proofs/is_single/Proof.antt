@@ -1,4 +1,4 @@
--- Two tests decide.
+-- Where not one is held the conjunction is false, and else it is its second test.
 use Rattle.deciding.proofs.is_single.Statement.{statement}
 use Rattle.deciding.proofs.is_single.Tie as tie
 

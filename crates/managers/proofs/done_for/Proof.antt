@@ -1,4 +1,4 @@
--- Two tests decide.
+-- Where a test fails the conjunction is false, and the definition leaves the enlistment too.
 use mathlib.Core.Path.{sym, _∙_}
 use borrow.Author.Needs.{needs}
 use Rattle.managers.proofs.done_for.Statement.{statement}

@@ -1,4 +1,4 @@
--- Two tests decide, the second of the bytes.
+-- Where it is not durable the conjunction is false, and else it is the test of the bytes.
 use borrow.Author.Needs.{needs}
 use Rattle.managers.proofs.is_durable_of.Statement.{statement}
 use Rattle.managers.proofs.is_durable_of.Tie as tie

@@ -1,4 +1,4 @@
--- Two tests decide.
+-- Where the state is 0 the conjunction is false, and else it is its second test.
 use Rattle.passes.proofs.hears_abort.Statement.{statement}
 use Rattle.passes.proofs.hears_abort.Tie as tie
 

@@ -1,4 +1,4 @@
--- One test decides.
+-- A phase-zero enlistment is the one that the definition changes; any other is left by both.
 use borrow.Author.Needs.{needs}
 use Rattle.passes.proofs.zeroed.Statement.{statement}
 use Rattle.passes.proofs.zeroed.Tie as tie

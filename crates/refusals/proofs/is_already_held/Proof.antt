@@ -10,5 +10,5 @@ is-already-held-spec =
     tie.close
     (tie.spec
     (λ c κs. search needs)
-    (λ c. rw (c .before .if1 .taken) (c .or .ensures))
+    (λ c. rw (c .before .if1 .taken) (c .either .ensures))
     (λ c. rw (c .if1 .left) (sym (or-false (c .before .args .held)))))

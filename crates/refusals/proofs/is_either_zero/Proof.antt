@@ -1,4 +1,4 @@
--- Two tests decide.
+-- Where the first is zero the disjunction is true, and else it is its second test.
 use mathlib.Core.Path.{sym, _∙_}
 use borrow.Author.Needs.{needs}
 use Rattle.refusals.proofs.is_either_zero.Statement.{statement}

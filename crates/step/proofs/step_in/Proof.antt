@@ -6,7 +6,7 @@ use mathlib.Core.List.{[], _∷_}
 use Rattle.rules.specs.Events.{acceptedOf}
 use Rattle.rules.specs.Refusals.{check, firstOf}
 use Rattle.rows.specs.Memory.{tableIn}
-use Rattle.step.proofs.Done.{silent-does}
+use Rattle.entering.proofs.Done.{silent-does}
 use Rattle.step.proofs.step_in.Statement.{statement}
 use Rattle.step.proofs.step_in.Tie as tie
 

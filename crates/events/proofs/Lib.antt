@@ -1,0 +1,4 @@
+pub mod PutBack
+pub mod Takes
+pub mod Asking
+pub mod Roomy

@@ -1,0 +1,31 @@
+-- The rows are tested in their order.
+use Prim.Native.Nat.{_-_}
+use mathlib.Core.Path.{refl, sym, _∙_}
+use mathlib.Core.Bool.{_&&_}
+use mathlib.Core.List.{[], map}
+use lib.ListN.{length-map}
+use borrow.Author.Needs.{needs}
+use Rattle.lists.specs.Lists.{any}
+use Rattle.lists.proofs.Loops.{any-filter, Looked, look-start, look-done}
+use Rattle.rules.specs.Table.{heldBy, isDurableOf}
+use Rattle.rows.specs.Memory.{enlistmentIn}
+use Rattle.rows.proofs.Mapped.{any-miss, any-hit}
+use Rattle.lent_counts.proofs.has_durable_of.Statement.{statement}
+use Rattle.lent_counts.proofs.has_durable_of.Tie as tie
+
+pub has-durable-of-spec : {M : Type 1} → statement M
+unfolding any
+has-durable-of-spec =
+    tie.close
+    (tie.spec
+    (λ rows p rm i₀ i. Looked (λ k. any (λ e. heldBy p e && isDurableOf rm e)) 128 (map enlistmentIn rows) i)
+    (λ rows p rm i₀ i. 128 - i)
+    (λ c. look-start (length-map (c .args .rows .now) enlistmentIn ∙ c .pre))
+    (λ c. search needs)
+    (λ c. search needs)
+    (λ c κs. search needs)
+    (λ c. search needs)
+    (λ c. rw (any-filter (isDurableOf (c .before .before .before .before .before .args .rm)) (heldBy (c .before .before .before .before .before .args .p))) (any-hit (λ e. heldBy (c .before .before .before .before .before .args .p) e && isDurableOf (c .before .before .before .before .before .args .rm) e) enlistmentIn (c .before .before .before .before .before .args .rows .now) [] (c .before .before .before .before .loop .inv) (c .before .before .before .loop-test .taken) (sym (c .before .is-held-durable-of .ensures) ∙ c .if1 .taken)))
+    (λ c. search needs)
+    (λ c. any-miss (λ e. heldBy (c .before .before .before .before .before .args .p) e && isDurableOf (c .before .before .before .before .before .args .rm) e) enlistmentIn (c .before .before .before .before .before .args .rows .now) [] (c .before .before .before .before .loop .inv) (c .before .before .before .loop-test .taken) (sym (c .before .is-held-durable-of .ensures) ∙ c .if1 .left))
+    (λ c. rw (any-filter (isDurableOf (c .before .before .args .rm)) (heldBy (c .before .before .args .p))) (look-done (c .before .loop .inv) (c .loop-test .left) refl)))

@@ -1,0 +1,15 @@
+-- Both bytes are read where they stand.
+use borrow.Author.Needs.{needs}
+use Rattle.rows.specs.Memory.{enlistmentIn}
+use Rattle.lent_counts.proofs.is_held_durable.Statement.{statement}
+use Rattle.lent_counts.proofs.is_held_durable.Tie as tie
+
+pub is-held-durable-spec : {M : Type 1} → statement M
+unfolding enlistmentIn
+is-held-durable-spec =
+    tie.close
+    (tie.spec
+    (λ c. search needs)
+    (λ c. search needs)
+    (λ c. rw (c .if1 .taken))
+    (λ c. rw (c .if1 .left)))

@@ -1,0 +1,30 @@
+-- The places are tested in their order.
+use Prim.Native.Nat.{_-_}
+use mathlib.Core.Path.{refl, _∙_}
+use mathlib.Core.List.{map}
+use lib.ListN.{length-map}
+use borrow.Author.Needs.{needs}
+use Rattle.lists.proofs.Loops.{Sought, seek-start, seek-miss, seek-hit, seek-done}
+use Rattle.rules.specs.Table.{isVacant}
+use Rattle.rows.specs.Memory.{enlistmentIn}
+use Rattle.rows.proofs.Mapped.{seen}
+use Rattle.lent_places.proofs.place_vacant.Statement.{statement}
+use Rattle.lent_places.proofs.place_vacant.Tie as tie
+
+pub place-vacant-spec : {M : Type 1} → statement M
+unfolding enlistmentIn
+place-vacant-spec =
+    tie.close
+    (tie.spec
+    (λ rows i₀ i. Sought isVacant 128 (map enlistmentIn rows) i)
+    (λ rows i₀ i. 128 - i)
+    (λ c. seek-start (length-map (c .args .rows .now) enlistmentIn ∙ c .pre))
+    (λ c. search needs)
+    (λ c. search needs)
+    (λ c. search needs)
+    (λ c. search needs)
+    (λ c. search needs)
+    (λ c. seek-hit _ (c .before .before .before .loop .inv) (c .before .before .loop-test .taken) (seen isVacant enlistmentIn (c .before .before .before .before .args .rows .now) (c .before .before .before .loop .i) _ (refl)) (c .if1 .taken))
+    (λ c. search needs)
+    (λ c. seek-miss _ (c .before .before .before .loop .inv) (c .before .before .loop-test .taken) (seen isVacant enlistmentIn (c .before .before .before .before .args .rows .now) (c .before .before .before .loop .i) _ (refl)) (c .if1 .left))
+    (λ c. seek-done (c .before .loop .inv) (c .loop-test .left)))
