@@ -70,17 +70,18 @@ unfolding atFrom
 empties k p zero = refl
 empties k p (suc m) = by-test (eqb k p) (λ e. rw e refl) (λ e. rw e (empties (suc k) p m))
 
-live-at : (k p : ℕ) (os : List Open) (m : ℕ) → Live (atFrom noTransaction k p (map reopened os ++ replicate m noTransaction)) → LiveAt k p os (atFrom noTransaction k p (map reopened os ++ replicate m noTransaction))
+live-at : (k p : ℕ) (os : List Open) (m : ℕ) (y : Transaction) → atFrom noTransaction k p (map reopened os ++ replicate m noTransaction) ≡ y → Live y → LiveAt k p os y
 unfolding atFrom reenlistments
-live-at k p [] m l = absurd (l (ap (λ (x : Transaction). x .state) (empties k p m)))
-live-at k p (o ∷ os) m l = by-test (eqb k p)
-    (λ e. rw e (record { o = o; open-one = List·Memᴰ·head refl; is = refl; entered = λ d i. Memᴰ·append-left (reenlistments (suc k) os) (at-own (eqb-true k p e) d i); low = omega (arith, eqb-true k p e) }))
-    (λ e. rw e (there (live-at (suc k) p os m (rw e at l))))
+live-at k p [] m y q l = absurd (l (ap (λ (x : Transaction). x .state) (sym q ∙ empties k p m)))
+live-at k p (o ∷ os) m y q l = by-test (eqb k p) (λ e. here (eqb-true k p e) (rw e at q)) (λ e. there (live-at (suc k) p os m y (rw e at q) l))
   where
     at-own : k ≡ p → (d : Entry) → d ∈ o .entries → reenlistment p d ∈ map (reenlistment k) (o .entries)
     at-own e d i = rw (← e) (in-map (reenlistment k) i)
 
-    there : LiveAt (suc k) p os (atFrom noTransaction (suc k) p (map reopened os ++ replicate m noTransaction)) → LiveAt k p (o ∷ os) (atFrom noTransaction (suc k) p (map reopened os ++ replicate m noTransaction))
+    here : k ≡ p → reopened o ≡ y → LiveAt k p (o ∷ os) y
+    here e s = record { o = o; open-one = List·Memᴰ·head refl; is = sym s; entered = λ d i. Memᴰ·append-left (reenlistments (suc k) os) (at-own e d i); low = omega (arith, e) }
+
+    there : LiveAt (suc k) p os y → LiveAt k p (o ∷ os) y
     there s = record { o = s .o; open-one = List·Memᴰ·tail (s .open-one); is = s .is; entered = λ d i. Memᴰ·append-right (map (reenlistment k) (o .entries)) (s .entered d i); low = omega (arith, s .low) }
 
 few-open : (f : ℕ → Transaction → Bool) → ((q : ℕ) → f q noTransaction ≡ false) → (k : ℕ) (os : List Open) (m : ℕ) → length (placesFrom f k (map reopened os ++ replicate m noTransaction)) ≤ length os
@@ -167,7 +168,7 @@ module _ (capacity used : ℕ) (os : List Open) (k : Fit os) (header : headerSiz
 
   found : (p : ℕ) → Live (transactionAt p tb) → LiveAt 1 p os (transactionAt p tb)
   unfolding tableOf
-  found p l = live-at 1 p os (transactionPlaces - length os) l
+  found p l = live-at 1 p os (transactionPlaces - length os) (transactionAt p tb) refl l
 
   some-place : (p : ℕ) → Live (transactionAt p tb) → p ≡ 0 → ⊥
   some-place p l z = omega (arith, z, found p l .low)
