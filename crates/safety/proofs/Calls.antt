@@ -42,7 +42,7 @@ use Rattle.safety.specs.Host.{Prepares, MayAsk}
 use Rattle.safety.specs.Demand3.{Votes}
 use Rattle.safety.proofs.Alone as alone
 use Rattle.safety.proofs.Alone.{Story, early, Waits, Unasked}
-use Rattle.safety.proofs.Move.{d-early, d-aborting, g-aborting, Move, stay, begin, gather, abort, told-on, answer-out}
+use Rattle.safety.proofs.Move.{from-early, from-aborting, to-aborting, Move, stay, begin, gather, abort, told-on, answer-out}
 use Rattle.safety.proofs.Top.{Agrees}
 use Rattle.safety.proofs.Story.{story}
 use Rattle.safety.proofs.View.{viewOf, look, view-stands, view-absent, view-same, view-goes, goes-other, view-changes, view-held-other, state-none}
@@ -178,7 +178,7 @@ module _ (tb : Table) (log : List ℕ) (s : Sound tb) (x : TxId) (y : RmId) wher
     is-early (inr q) = view-here transaction.phaseZero q
 
     pub own-rollback : (stateAt p tb ≡ transaction.active) ⊎ (stateAt p tb ≡ transaction.phaseZero) → Own tb (event act.Rollback) log t (abortOf p tb log)
-    own-rollback st = own-abort tb (event act.Rollback) log t p tb (untouched tb s t p at-p) refl (rw (is-early st) d-early)
+    own-rollback st = own-abort tb (event act.Rollback) log t p tb (untouched tb s t p at-p) refl (rw (is-early st) from-early)
 
     -- ── Enlist ──────────────────────────────────────────────────────────────────────────────────────────────────
 
@@ -304,7 +304,7 @@ module _ (tb : Table) (log : List ℕ) (s : Sound tb) (x : TxId) (y : RmId) wher
   ask-over : (stateAt p tb ≡ 0) ⊎ (stateAt p tb ≡ transaction.aborting) → Own tb ask log t (saying (signal name.AnswerAborted 0 ∷ []) (quietly tb log))
   ask-over w = only-answered (signal name.AnswerAborted 0 ∷ []) (addressed-one tb ask name.AnswerAborted 0 (inl refl)) (λ h may l a. by-either
       (λ q. rw (view-here 0 q) (answer-out r refl may (nothing-calm t) silent))
-      (λ q. rw (view-here transaction.aborting q) (abort refl d-aborting g-aborting silent)) w)
+      (λ q. rw (view-here transaction.aborting q) (abort refl from-aborting to-aborting silent)) w)
     where
       silent : alone.New t Committed (map (messageOf tb ask) (signal name.AnswerAborted 0 ∷ [])) → ⊥
       silent = none-committed t tb ask (signal name.AnswerAborted 0 ∷ []) (only-one notCommitted name.AnswerAborted 0 refl)

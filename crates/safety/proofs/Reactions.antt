@@ -48,7 +48,7 @@ use Rattle.safety.specs.Host.{Prepares, Closes}
 use Rattle.safety.specs.Demand3.{Votes, Yes}
 use Rattle.safety.proofs.Alone as alone
 use Rattle.safety.proofs.Alone.{Story, Hopes, Waits, Unasked, Preparing, NoDurable}
-use Rattle.safety.proofs.Move.{Calm, NotEnlisted, VoteOf, Doomed, d-early, d-voting, d-single, g-out, Move, gather, vote-on, abort, replied, told-on}
+use Rattle.safety.proofs.Move.{Calm, NotEnlisted, VoteOf, Doomed, from-early, from-voting, from-single, to-out, Move, gather, vote-on, abort, replied, told-on}
 use Rattle.safety.proofs.Top.{Agrees}
 use Rattle.safety.proofs.View.{viewOf, look, view-stands, view-changes, view-held-other, view-ends, state-held, stands-held}
 use Rattle.safety.proofs.Given.{id-size, owner-held, Row, in-active, in-zero, in-voting, in-single, in-commit, in-abort, Named}
@@ -369,7 +369,7 @@ module _ (tb : Table) (log : List ℕ) (n : ℕ) (s : Sound tb) (full : length l
     where
       other : (r : Id) → Prepares t r (Note.voted t n (me .rm .0) (me .kind) vote.ReadOnly) → ⊥
       other r (m, q) = let z : _≡_ {A = ℕ} 0 1 = cc in omega arith
-  own-vote vote.Aborted st = own-abort tb (event (act.Vote n vote.Aborted)) log t p (changed (inState enlistment.done)) (touched (inState enlistment.done) (state-mild enlistment.done)) refl (rw (view-before transaction.phaseOne (voting-state vote.Aborted st)) d-voting)
+  own-vote vote.Aborted st = own-abort tb (event (act.Vote n vote.Aborted)) log t p (changed (inState enlistment.done)) (touched (inState enlistment.done) (state-mild enlistment.done)) refl (rw (view-before transaction.phaseOne (voting-state vote.Aborted st)) from-voting)
 
   -- ── after the decision ────────────────────────────────────────────────────────────────────────────────────────
 
@@ -465,9 +465,9 @@ module _ (tb : Table) (log : List ℕ) (n : ℕ) (s : Sound tb) (full : length l
   own-reply reply.Committed st = reply-ends reply.Committed name.AppCommitted (of-single (stateAt p tb) me (nm .line) st)
       (λ h l g. replied refl refl (record { it = me; there = nm .mine; holds = nm .number }) (none-aborted t tb (event (act.Reply n reply.Committed)) (toApp name.AppCommitted) (only-one notAborted name.AppCommitted 0 refl)))
   own-reply reply.Aborted st = reply-ends reply.Aborted name.AppAborted (of-single (stateAt p tb) me (nm .line) st)
-      (λ h l g. abort refl d-single g-out (none-committed t tb (event (act.Reply n reply.Aborted)) (toApp name.AppAborted) (only-one notCommitted name.AppAborted 0 refl)))
+      (λ h l g. abort refl from-single to-out (none-committed t tb (event (act.Reply n reply.Aborted)) (toApp name.AppAborted) (only-one notCommitted name.AppAborted 0 refl)))
   own-reply reply.InDoubt st = reply-ends reply.InDoubt name.AppInDoubt (of-single (stateAt p tb) me (nm .line) st)
-      (λ h l g. abort refl d-single g-out (none-committed t tb (event (act.Reply n reply.InDoubt)) (toApp name.AppInDoubt) (only-one notCommitted name.AppInDoubt 0 refl)))
+      (λ h l g. abort refl from-single to-out (none-committed t tb (event (act.Reply n reply.InDoubt)) (toApp name.AppInDoubt) (only-one notCommitted name.AppInDoubt 0 refl)))
 
   -- ── zero done ─────────────────────────────────────────────────────────────────────────────────────────────────
 
@@ -515,7 +515,7 @@ module _ (tb : Table) (log : List ℕ) (n : ℕ) (s : Sound tb) (full : length l
   lost-single : In enlistment.onePhase me → Own tb lost log t (react (reaction.Freed (then.EndWith name.AppInDoubt)) p n tb log)
   unfolding react
   lost-single st = rw (end-is name.AppInDoubt four) (unlogged tb lost log t p (changed freed) (touched freed freed-mild) refl (emptied p (changed freed)) (toApp name.AppInDoubt) (addressed-one tb lost name.AppInDoubt 0 (inl refl)) (used-emptied p (changed freed)) (ends-for t p (changed freed) (touched freed freed-mild .stands))
-      (λ h made l g. rw (view-before transaction.singlePhase four, view-ends t p (changed freed) (touched freed freed-mild .stands)) (abort refl d-single g-out (none-committed t tb lost (toApp name.AppInDoubt) (only-one notCommitted name.AppInDoubt 0 refl)))))
+      (λ h made l g. rw (view-before transaction.singlePhase four, view-ends t p (changed freed) (touched freed freed-mild .stands)) (abort refl from-single to-out (none-committed t tb lost (toApp name.AppInDoubt) (only-one notCommitted name.AppInDoubt 0 refl)))))
     where
       four : stateAt p tb ≡ transaction.singlePhase
       four = of-single (stateAt p tb) me (nm .line) st
@@ -541,11 +541,11 @@ module _ (tb : Table) (log : List ℕ) (n : ℕ) (s : Sound tb) (full : length l
 
   -- before the decision
   early-doomed : In enlistment.active me ⊎ In enlistment.zero me → Doomed t (viewOf t tb)
-  early-doomed (inl q) = by-either (λ w. rw (view-before transaction.active w) d-early) (λ w. rw (view-before transaction.phaseZero w) d-early) (of-active (stateAt p tb) me (nm .line) q)
-  early-doomed (inr q) = rw (view-before transaction.phaseZero (of-zero (stateAt p tb) me (nm .line) q .0)) d-early
+  early-doomed (inl q) = by-either (λ w. rw (view-before transaction.active w) from-early) (λ w. rw (view-before transaction.phaseZero w) from-early) (of-active (stateAt p tb) me (nm .line) q)
+  early-doomed (inr q) = rw (view-before transaction.phaseZero (of-zero (stateAt p tb) me (nm .line) q .0)) from-early
 
   voting-doomed : In enlistment.preparing me ⊎ In enlistment.prepared me → Doomed t (viewOf t tb)
-  voting-doomed q = rw (view-before transaction.phaseOne (of-voting (stateAt p tb) me (nm .line) q)) d-voting
+  voting-doomed q = rw (view-before transaction.phaseOne (of-voting (stateAt p tb) me (nm .line) q)) from-voting
 
   -- ── every reaction ────────────────────────────────────────────────────────────────────────────────────────────
 
