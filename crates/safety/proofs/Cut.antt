@@ -1,6 +1,5 @@
 -- Storing, leaving and restarting keep what is always true of one transaction.
 use Prim.Native.Nat.{ℕ}
-use native.Mathlib.Omega.{arith}
 use mathlib.Core.Path.{_≡_, refl}
 use mathlib.Core.Logic.{_⊎_, inl, inr, ⊎-elim}
 use mathlib.Core.List.{List, [], _∷_, List·Memᴰ·cases-cons, List·Memᴰ·not-nil}
@@ -13,7 +12,7 @@ use Rattle.rules.specs.Sound.{Durable}
 use Rattle.safety.specs.World.{Note, Message, Issued}
 use Rattle.safety.specs.Host.{MayAsk}
 use Rattle.rules.specs.Signals.{Committed, Aborted}
-use Rattle.safety.proofs.Alone.{Story, none, open-with, closed, bad, Below, below-refl, Logged, logged-up, fine-down, View, out, early, voting, single, committing, aborting, Waits, managersOf, Entered, NoAsk, AsksIn, Any, Base, Undecided, Shape}
+use Rattle.safety.proofs.Alone.{Story, none, open-with, closed, bad, Below, below-refl, Logged, logged-up, fine-down, none-not-open, closed-not-open, View, out, early, voting, single, committing, aborting, Waits, managersOf, Entered, NoAsk, AsksIn, Any, Base, Undecided, Shape}
 
 -- What a restart makes of a story
 abbrev pub Restored : Story → View → Type 0
@@ -131,12 +130,6 @@ module _ (t : Id) (storyOf : List ℕ → Story) (log disk : Story) (h : List No
     where
       up : Logged disk → Logged log
       up = logged-up disk log (b .below)
-
-  none-not-open : {s : Story} → s ≡ none → (rs : List Entry) → s ≡ open-with rs → ⊥
-  none-not-open e rs p = let z : _≡_ {A = ℕ} 0 1 = cc in omega arith
-
-  closed-not-open : {s : Story} → s ≡ closed → (rs : List Entry) → s ≡ open-with rs → ⊥
-  closed-not-open e rs p = let z : _≡_ {A = ℕ} 0 1 = cc in omega arith
 
   pub shape-restart : Before → (v : View) → Restored disk v → Shape t v disk h [] sent issued
   shape-restart b v = go disk refl

@@ -1,10 +1,12 @@
 -- The moves of one transaction, and that each keeps what is always true.
 use Prim.Native.Nat.{ℕ}
 use native.Mathlib.Omega.{arith}
-use mathlib.Core.Path.{_≡_, refl, sym, _∙_}
+use mathlib.Core.Path.{_≡_, refl, sym, _∙_, ap}
 use mathlib.Core.Logic.{_⊎_, inl, inr, ⊎-elim}
+use mathlib.Core.Bool.{Bool, true, false}
 use mathlib.Core.List.{List, _∷_, _++_, List·Memᴰ, List·Memᴰ·head, List·Memᴰ·tail, List·Memᴰ·cases-cons, List·Memᴰ·append-cases, Memᴰ·append-left, Memᴰ·append-right, Memᴰ·of-map}
 use Rattle.lists.specs.Members.{_∈_, Some}
+use Rattle.lists.proofs.Tests.{no-clash}
 use Rattle.rules.specs.declared.Enlistment.{Enlistment}
 use Rattle.rules.specs.declared.Vote.{Vote}
 use Rattle.rules.specs.declared.Vote.the-variants as vote
@@ -19,13 +21,29 @@ use Rattle.safety.specs.World.{Note, Message, Issued, issue}
 use Rattle.safety.specs.Host.{Prepares, Closes, MayAsk, now, still}
 use Rattle.rules.specs.Signals.{Committed, Aborted}
 use Rattle.safety.specs.Demand3.{About, Votes, Yes, VotedYes, AllVotedYes}
-use Rattle.safety.proofs.Alone.{Story, none, open-with, closed, bad, Below, below-refl, below-trans, Logged, View, out, early, voting, single, committing, aborting, Hopes, Waits, Unasked, Preparing, NoDurable, managersOf, Entered, Begun, NoAsk, Good, AsksIn, New, Any, Base, Undecided, Shape, ShapeVoting, ShapeCommitting}
+use Rattle.safety.proofs.Alone.{Story, none, open-with, closed, bad, Below, below-refl, below-trans, Logged, none-not-open, closed-not-open, View, out, early, voting, single, committing, aborting, Hopes, Waits, Unasked, Preparing, NoDurable, managersOf, Entered, Begun, NoAsk, Good, AsksIn, New, Any, Base, Undecided, Shape, ShapeVoting, ShapeCommitting}
+
+-- the note tells neither of an enlistment nor of a vote
+abbrev pub isCalm : Note → Bool
+isCalm (Note.begun t) = true
+isCalm (Note.enlisted t n r k) = false
+isCalm (Note.voted t n r k v) = false
+isCalm (Note.replied t n r) = true
+isCalm (Note.acked t n r k) = true
+isCalm (Note.reenlisted r) = true
+isCalm Note.nothing = true
 
 module _ (t : Id) where
   -- the note tells neither of a new enlistment nor of a prepared vote of t
   pub record Calm (x : Note) : Type 0 where
     pub not-enlisted : (n : ℕ) (r : Id) (k : ℕ) → x ≡ Note.enlisted t n r k → ⊥
     pub not-prepared : (r : Id) → Prepares t r x → ⊥
+
+  pub calm-note : (x : Note) → isCalm x ≡ true → Calm x
+  calm-note x c = record { not-enlisted = λ n r k p. no-clash (isCalm x) c (ap isCalm p); not-prepared = λ r p. no-clash (isCalm x) c (ap isCalm (p .1)) }
+
+  pub nothing-calm : Calm Note.nothing
+  nothing-calm = calm-note Note.nothing refl
 
   abbrev pub NotEnlisted : Note → Type 0
   NotEnlisted x = (n : ℕ) (r : Id) (k : ℕ) → x ≡ Note.enlisted t n r k → ⊥
@@ -310,30 +328,6 @@ module _ (t : Id) where
     asks-none : log′ ≡ none → AsksIn t log′ (x ∷ h)
     asks-none e = rw e tt
 
-    not-begun-enlisted : x ≡ Note.begun t → Calm x
-    not-begun-enlisted e = record {
-      not-enlisted = λ n r k p. absurd (never (sym e ∙ p));
-      not-prepared = λ r p. absurd (never₂ (sym e ∙ p .1));
-    }
-      where
-        never : {n : ℕ} {r : Id} {k : ℕ} → Note.begun t ≡ Note.enlisted t n r k → ⊥
-        never p = let z : _≡_ {A = ℕ} 0 1 = cc in omega arith
-
-        never₂ : {n : ℕ} {r : Id} → Note.begun t ≡ Note.voted t n r kind.durable vote.Prepared → ⊥
-        never₂ p = let z : _≡_ {A = ℕ} 0 1 = cc in omega arith
-
-    replied-calm : {n₀ : ℕ} → x ≡ Note.replied t n₀ reply.Committed → Calm x
-    replied-calm {n₀} e = record {
-      not-enlisted = λ n r k p. absurd (never (sym e ∙ p));
-      not-prepared = λ r p. absurd (never₂ (sym e ∙ p .1));
-    }
-      where
-        never : {n : ℕ} {r : Id} {k : ℕ} → Note.replied t n₀ reply.Committed ≡ Note.enlisted t n r k → ⊥
-        never p = let z : _≡_ {A = ℕ} 0 1 = cc in omega arith
-
-        never₂ : {n : ℕ} {r : Id} → Note.replied t n₀ reply.Committed ≡ Note.voted t n r kind.durable vote.Prepared → ⊥
-        never₂ p = let z : _≡_ {A = ℕ} 0 1 = cc in omega arith
-
     -- every enlistment has voted yes, if x is the last vote
     last-vote : {es : List Enlistment} → ShapeVoting t es log h waiting sent → NotEnlisted x → ((n : ℕ) → Some (Preparing n) es → VoteOf n x) → AllVotedYes t (x ∷ h)
     last-vote s c f n r k i m = ⊎-elim (voted-more x) (λ p. vote-of h (f n p)) (s .held n r k (old c i) m)
@@ -374,7 +368,7 @@ module _ (t : Id) where
 
     pub keep-base : {v v′ : View} → Old → Shape t v log h waiting sent issued → Move h x ms log log′ v v′ → Next
     keep-base b s (stay e c q) = make-stay b c q e
-    keep-base b s (begin e not-begun noted q) = make-stay b (not-begun-enlisted noted) q e
+    keep-base b s (begin e not-begun noted q) = make-stay b (calm-note x (ap isCalm noted)) q e
     keep-base b s (gather e not-prepared q f g) = make-undecided b (s .undecided) e q
     keep-base b s (prepare e c q f) = make-undecided b (s .undecided) e q
     keep-base b s (ask-one e c q f g m) = make-undecided b (s .undecided) e q
@@ -394,8 +388,8 @@ module _ (t : Id) where
     keep-base b s (abort e d g no-commit) = let z : Doom = doom d s in make-none b (z .begun) (e ∙ z .log-none) (z .log-none) (no-committed′ no-commit (z .no-committed)) (z .no-committed)
     keep-base b s (replied {n₀ = n₀} e noted w no-abort) =
         make-first b (s .undecided) (rw e (b .fine)) (below-same e) (asks-none (e ∙ s .undecided .log-none))
-        (inr (record { number = n₀; only = λ n r k i m. s .only n r k (old (replied-calm noted .not-enlisted) i) m ∙ is-it; asked = rw (← is-it) (Memᴰ·append-right ms (s .asked)); answered = List·Memᴰ·head (sym noted) }))
-        no-abort (inl (no-ask-calm (replied-calm noted .not-prepared) (s .no-ask)))
+        (inr (record { number = n₀; only = λ n r k i m. s .only n r k (old (calm-note x (ap isCalm noted) .not-enlisted) i) m ∙ is-it; asked = rw (← is-it) (Memᴰ·append-right ms (s .asked)); answered = List·Memᴰ·head (sym noted) }))
+        no-abort (inl (no-ask-calm (calm-note x (ap isCalm noted) .not-prepared) (s .no-ask)))
       where
         is-it : s .number ≡ n₀
         is-it = sym (s .numbers (w .it) (w .there)) ∙ w .holds
@@ -435,21 +429,12 @@ module _ (t : Id) where
     }
 
     gone-shape : {v : View} → Doom → log′ ≡ log → Gone v → (New t Committed ms → ⊥) → Shape′ v
-    gone-shape z e to-out no-commit = record { not-open = λ rs p. absurd (not-none (sym (e ∙ z .log-none) ∙ p)); no-ask = λ c. absurd (no-committed′ no-commit (z .no-committed) c) }
-      where
-        not-none : {rs : List Entry} → none ≡ open-with rs → ⊥
-        not-none p = let z : _≡_ {A = ℕ} 0 1 = cc in omega arith
+    gone-shape z e to-out no-commit = record { not-open = λ rs p. none-not-open (e ∙ z .log-none) rs p; no-ask = λ c. absurd (no-committed′ no-commit (z .no-committed) c) }
     gone-shape z e to-aborting no-commit = record { log-none = e ∙ z .log-none; begun = List·Memᴰ·tail (z .begun); no-committed = no-committed′ no-commit (z .no-committed) }
 
     -- out with nobody to ask
     out-shape : ((rs : List Entry) → log′ ≡ open-with rs → ⊥) → NoAsk t (x ∷ h) → Shape′ out
     out-shape f g = record { not-open = f; no-ask = λ _. g }
-
-    none-not-open : log′ ≡ none → (rs : List Entry) → log′ ≡ open-with rs → ⊥
-    none-not-open e rs p = let z : _≡_ {A = ℕ} 0 1 = cc in omega arith
-
-    closed-not-open : log′ ≡ closed → (rs : List Entry) → log′ ≡ open-with rs → ⊥
-    closed-not-open e rs p = let z : _≡_ {A = ℕ} 0 1 = cc in omega arith
 
     pub stay-shape : (v : View) → log′ ≡ log → Calm x → Quiet ms → Shape t v log h waiting sent issued → Shape′ v
     stay-shape out e c q s = record {
@@ -486,8 +471,8 @@ module _ (t : Id) where
         no-committed = no-committed′ (q .no-committed) (λ c. not-begun (b .begun-committed c));
         no-aborted = no-aborted′ (q .no-aborted) (λ c. not-begun (b .begun-aborted c));
       };
-      no-ask = λ r m. not-begun (b .begun-ask r (ask-calm (not-begun-enlisted noted .not-prepared) m));
-      held = λ n r k i m. absurd (not-begun (b .begun-enlisted n r k (old (not-begun-enlisted noted .not-enlisted) i)));
+      no-ask = λ r m. not-begun (b .begun-ask r (ask-calm (calm-note x (ap isCalm noted) .not-prepared) m));
+      held = λ n r k i m. absurd (not-begun (b .begun-enlisted n r k (old (calm-note x (ap isCalm noted) .not-enlisted) i)));
     }
       where
         fresh : (s : Story) → (Logged s → Begun t h) → s ≡ none
@@ -535,7 +520,7 @@ module _ (t : Id) where
     }
     keep-shape b s (decide-empty e not-enlisted no-abort f g) = out-shape (none-not-open (e ∙ s .undecided .log-none)) (λ r m. g r (hoping s r m))
     keep-shape b s (abort e d g no-commit) = gone-shape (doom d s) e g no-commit
-    keep-shape b s (replied e noted w no-abort) = out-shape (none-not-open (e ∙ s .undecided .log-none)) (no-ask-calm (replied-calm noted .not-prepared) (s .no-ask))
+    keep-shape b s (replied e noted w no-abort) = out-shape (none-not-open (e ∙ s .undecided .log-none)) (no-ask-calm (calm-note x (ap isCalm noted) .not-prepared) (s .no-ask))
     keep-shape b s (told-on e c no-abort f g d n) = told-shape s e c no-abort f g d n
     keep-shape b s (end-logged e c q f) = out-shape (closed-not-open e) (close-all c (s .wait) f)
     keep-shape b s (end-unlogged e c q d) = out-shape

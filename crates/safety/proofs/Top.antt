@@ -25,7 +25,7 @@ use Rattle.safety.specs.Run.{Run, start, step, store, trim, leave, resta
 use Rattle.rules.specs.Signals.{Committed, Aborted}
 use Rattle.safety.specs.Demand3.{Safe, Demand3}
 use Rattle.safety.proofs.Alone.{Story, none, open-with, bad, Below, below-trans, below-both, View, out, early, voting, single, committing, aborting, NoDurable, Entered, Any, Base, Shape}
-use Rattle.safety.proofs.Move.{Calm, Quiet, Move, keep-base, keep-shape, make-stay, stay-shape}
+use Rattle.safety.proofs.Move.{nothing-calm, Quiet, Move, keep-base, keep-shape, make-stay, stay-shape}
 use Rattle.safety.proofs.Cut.{Restored, keep-store, keep-leave, shape-leave, keep-restart, shape-restart}
 
 -- ── what has to be shown ────────────────────────────────────────────────────────────────────────────────────────
@@ -106,15 +106,6 @@ module _ (R : Refines) where
 
   abbrev pub Inv : World → Type 0
   Inv w = Alive w ⊎ Dead w
-
-  nothing-calm : (t : Id) → Calm t Note.nothing
-  nothing-calm t = record { not-enlisted = λ n r k p. never p; not-prepared = λ r p. never₂ (p .1) }
-    where
-      never : {n : ℕ} {r : Id} {k : ℕ} → Note.nothing ≡ Note.enlisted t n r k → ⊥
-      never p = let z : _≡_ {A = ℕ} 0 1 = cc in omega arith
-
-      never₂ : {n : ℕ} {r : Id} → Note.nothing ≡ Note.voted t n r kind.durable vote.Prepared → ⊥
-      never₂ p = let z : _≡_ {A = ℕ} 0 1 = cc in omega arith
 
   silent-quiet : (t : Id) → Quiet t []
   silent-quiet t = record { no-committed = λ m. List·Memᴰ·not-nil (m .there); no-aborted = λ m. List·Memᴰ·not-nil (m .there) }
@@ -200,7 +191,7 @@ module _ (R : Refines) where
   -- a trimmed log tells what it told
   trimmed-alive : (w : World) (disk : List ℕ) → Trimmed w disk → Alive w → Alive (withDisk disk w)
   unfolding withDisk
-  trimmed-alive w disk (nz, a, rest, p, q) l = record {
+  trimmed-alive w disk (used, a, rest, p, q) l = record {
     formed = l .formed;
     stored = record { rest = rest ++ l .stored .rest; whole = rw (sym (append-assoc disk rest (l .stored .rest)) ∙ ap (λ k. k ++ l .stored .rest) q) (l .stored .whole) };
     base = λ t. rw (same t) (l .base t);
