@@ -7,7 +7,6 @@ use Rattle.lists.specs.Members.{_∈_, Some}
 use Rattle.rules.specs.declared.Enlistment.{Enlistment}
 use Rattle.rules.specs.declared.Name.{Name}
 use Rattle.rules.specs.Identifiers.{Id}
-use Rattle.rules.specs.Log.{Entry}
 use Rattle.rules.specs.Sound.{Durable}
 use Rattle.safety.specs.World.{Note, Message, Issued}
 use Rattle.safety.specs.Host.{MayAsk}

@@ -9,12 +9,10 @@ use Rattle.lists.specs.Members.{_∈_, Some}
 use Rattle.lists.proofs.Tests.{no-clash}
 use Rattle.rules.specs.declared.Enlistment.{Enlistment}
 use Rattle.rules.specs.declared.Vote.{Vote}
-use Rattle.rules.specs.declared.Vote.the-variants as vote
 use Rattle.rules.specs.declared.Reply.the-variants as reply
 use Rattle.rules.specs.declared.Name.{Name}
 use Rattle.rules.specs.declared.Name.the-variants as name
 use Rattle.rules.specs.Identifiers.{Id}
-use Rattle.rules.specs.Kinds as kind
 use Rattle.rules.specs.Sound.{Durable}
 use Rattle.rules.specs.Log.{Entry}
 use Rattle.safety.specs.World.{Note, Message, Issued, issue}

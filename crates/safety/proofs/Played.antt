@@ -1,6 +1,5 @@
 -- Sample runs, as they are played: each call is made with what the last one left, so that every host which hands that on makes it.
 use Prim.Native.Nat.{ℕ}
-use mathlib.Core.Path.{_≡_}
 use mathlib.Core.List.{List, [], _∷_, _++_}
 use lib.ListN.{length}
 use Rattle.rules.specs.declared.Event.{Event}

@@ -2,7 +2,7 @@
 use native.Mathlib.Omega.{arith}
 use mathlib.Core.Path.{_≡_, refl}
 use mathlib.Core.Logic.{inl, inr}
-use mathlib.Core.List.{List, [], _∷_, _++_, List·Memᴰ·head, List·Memᴰ·not-nil}
+use mathlib.Core.List.{[], _++_, List·Memᴰ·head, List·Memᴰ·not-nil}
 use lib.ListN.{take, drop}
 use Rattle.lists.specs.Members.{_∈_}
 use Rattle.rules.specs.declared.Name.{Name}

@@ -12,8 +12,6 @@ use Rattle.lists.specs.Members.{_∈_, Some}
 use Rattle.rules.specs.declared.Table.{Table}
 use Rattle.rules.specs.declared.Event.{Event}
 use Rattle.rules.specs.declared.Name.{Name}
-use Rattle.rules.specs.declared.Vote.the-variants as vote
-use Rattle.rules.specs.Kinds as kind
 use Rattle.rules.specs.Sound.{Durable}
 use Rattle.rules.specs.Identifiers.{Id}
 use Rattle.rules.specs.Log.{Entry}
