@@ -42,7 +42,7 @@ unfolding recordBytes
 forget-length t e = omega arith
 
 pub id-length : (p : ℕ) (tb : Table) → Kept tb → Live (transactionAt p tb) → length (idAt p tb) ≡ identifierSize
-id-length p tb k l = k .transaction-identifiers (transactionAt p tb) (Rattle.lists.proofs.Places.at-member noTransaction (tb .transactions) (live-place p tb l)) l .0
+id-length p tb k l = k .transactions .named (transactionAt p tb) (Rattle.lists.proofs.Places.at-member noTransaction (tb .transactions) (live-place p tb l)) .identifier l .0
 
 not-open-emptied : (p : ℕ) (tb : Table) → openAt p (emptied p tb) ≡ false
 not-open-emptied p tb = ap (λ x. isOpen (x .state) (held p (emptied p tb))) (at-emptied-place p tb)
