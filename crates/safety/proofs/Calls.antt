@@ -4,14 +4,13 @@ use native.Mathlib.Omega.{arith}
 use mathlib.Core.Path.{_≡_, refl, sym, _∙_, ap}
 use mathlib.Core.Logic.{_⊎_, inl, inr}
 use mathlib.Core.Bool.{Bool, true, false, cond, _&&_}
-use mathlib.Core.List.{List, [], _∷_, _++_, map, append-nil}
-use lib.ListN.{take}
+use mathlib.Core.List.{List, [], _∷_, map}
 use lib.Dec.{eqb}
 use borrow.Author.Tests.{eqb-true, eqb-false, ne-eqb}
 use Rattle.lists.specs.Members.{_∈_, Some}
 use Rattle.lists.specs.Lists.{any, filter, firstOr}
 use Rattle.lists.specs.Places.{placeOf, putLowest}
-use Rattle.lists.proofs.Tests.{by-test, by-either, no-clash, is-false, true-or, first-passes, first-none, each-nothing}
+use Rattle.lists.proofs.Tests.{by-test, by-either, no-clash, is-false, true-or, first-passes, first-none}
 use Rattle.lists.proofs.Places.{place-first, put-is, put-there, put-keeps, filter-put}
 use Rattle.rules.specs.declared.Transaction.{Transaction}
 use Rattle.rules.specs.declared.Enlistment.{Enlistment}
@@ -31,11 +30,9 @@ use Rattle.rules.specs.EnlistmentState as enlistment
 use Rattle.rules.specs.Identifiers.{Id}
 use Rattle.rules.specs.Table.{noTransaction, noEnlistment, isLive, isFree, isNamed, placeNamed, transactionAt, stateAt, isVacant, heldBy, held, isPhaseZero, isIn, inState, withTransactions, withEnlistments, changeHeld, changeTransaction, goTo}
 use Rattle.rules.specs.Sound.{Sound, Durable}
-use Rattle.rules.specs.Log.{allBytes}
 use Rattle.rules.specs.Signals.{signal, toEach, Committed}
 use Rattle.rules.specs.Events.{quietly, saying, abortOf, beginOf, kindOf, zeroAtOnce, newEnlistment, enlistOf, zeroedOf, commitOf, isUndone, isOver, toldAgain, askOf}
 use Rattle.rules.proofs.Identifiers.{same-refl}
-use Rattle.rules.proofs.Records.{Valid}
 use Rattle.rules.proofs.Frames.{Keeps, of-held, in-held, held-came, held-own, held-transaction, named-is, named-other, named-found, none-absent, Stands, Absent, at-own, at-other, place-kept}
 use Rattle.safety.specs.World.{Note, told, messageOf}
 use Rattle.safety.specs.Host.{Prepares, MayAsk}
@@ -44,12 +41,10 @@ use Rattle.safety.proofs.Alone as alone
 use Rattle.safety.proofs.Alone.{Story, early, Waits, Unasked}
 use Rattle.safety.proofs.Move.{nothing-calm, from-early, from-aborting, to-aborting, Move, stay, begin, gather, abort, told-on, answer-out}
 use Rattle.safety.proofs.Top.{Agrees}
-use Rattle.safety.proofs.Story.{story}
 use Rattle.safety.proofs.View.{viewOf, look, view-stands, view-absent, view-same, view-goes, goes-other, view-changes, view-held-other, state-none}
 use Rattle.safety.proofs.Given.{stands-sound, owner-held}
-use Rattle.safety.proofs.Fitting.{judged-nothing}
 use Rattle.safety.proofs.Messages.{notCommitted, notAborted, Only, only-nothing, only-one, only-each, Addressed, Owned, addressed-nothing, addressed-one, addressed-neutral, none-committed, none-aborted, quiet}
-use Rattle.safety.proofs.Own.{by-cases, Own, unlogged, used-goes, own-abort, own-start}
+use Rattle.safety.proofs.Own.{by-cases, Own, unwritten, unlogged, used-goes, own-abort, own-start}
 use Rattle.safety.proofs.Reactions.{untouched}
 
 -- a change of the transaction at p is none of one that stands elsewhere
@@ -76,10 +71,6 @@ module _ (tb : Table) (log : List ℕ) (s : Sound tb) (x : TxId) (y : RmId) wher
   view-here : (k : ℕ) → stateAt p tb ≡ k → viewOf t tb ≡ look k hs
   unfolding viewOf
   view-here k q = ap (λ k. look k hs) q
-
-  nothing-written : take (tb .used) log ≡ take (tb .used) log ++ allBytes []
-  unfolding allBytes
-  nothing-written = sym (append-nil (take (tb .used) log))
 
   -- ── Begin ─────────────────────────────────────────────────────────────────────────────────────────────────────
 
@@ -124,17 +115,9 @@ module _ (tb : Table) (log : List ℕ) (s : Sound tb) (x : TxId) (y : RmId) wher
     begun-view = view-stands t q begun at ∙ ap (λ (w : Transaction). look (w .state) (held q begun)) stands-at
 
     own-begun : Own tb (event act.Begin) log t (quietly begun log)
-    unfolding story told
-    own-begun = record {
-      records = [];
-      valid = each-nothing Valid;
-      bytes = rw used-begun nothing-written;
-      other-story = λ u d k. refl;
-      other-view = begun-other;
-      judged = judged-nothing tb log (begun .used) used-begun;
-      addressed = addressed-nothing tb (event act.Begin);
-      move = λ h made l a. rw (view-absent t tb absent, begun-view) (begin refl made refl (quiet t tb (event act.Begin) [] (only-nothing notCommitted) (only-nothing notAborted)));
-    }
+    unfolding told
+    own-begun = unwritten tb (event act.Begin) log t begun [] (addressed-nothing tb (event act.Begin)) used-begun begun-other
+        (λ h made l a. rw (view-absent t tb absent, begun-view) (begin refl made refl (quiet t tb (event act.Begin) [] (only-nothing notCommitted) (only-nothing notAborted))))
 
     pub own-begin : Own tb (event act.Begin) log t (beginOf t tb log)
     own-begin = rw begin-is own-begun
@@ -243,17 +226,9 @@ module _ (tb : Table) (log : List ℕ) (s : Sound tb) (x : TxId) (y : RmId) wher
       used-enlisted = refl
 
       own-enlisted : Own tb this-event log t (saying ss (quietly enlisted log))
-      unfolding story told
-      own-enlisted = record {
-        records = [];
-        valid = each-nothing Valid;
-        bytes = rw used-enlisted nothing-written;
-        other-story = λ u d q. refl;
-        other-view = enlisted-other;
-        judged = judged-nothing tb log (enlisted .used) used-enlisted;
-        addressed = addressed-neutral tb this-event ss (only-zero notCommitted refl) (only-zero notAborted refl);
-        move = λ h made l a. rw (is-early state, enlisted-view) (gather refl not-prepared (quiet t tb this-event ss (only-zero notCommitted refl) (only-zero notAborted refl)) (λ j w. enlisted-keeps (Unasked j) w) is-new);
-      }
+      unfolding told
+      own-enlisted = unwritten tb this-event log t enlisted ss (addressed-neutral tb this-event ss (only-zero notCommitted refl) (only-zero notAborted refl)) used-enlisted enlisted-other
+          (λ h made l a. rw (is-early state, enlisted-view) (gather refl not-prepared (quiet t tb this-event ss (only-zero notCommitted refl) (only-zero notAborted refl)) (λ j w. enlisted-keeps (Unasked j) w) is-new))
 
       pub own-enlist : Own tb this-event log t (enlistOf p n r k m tb log)
       own-enlist = rw enlist-is own-enlisted
@@ -266,8 +241,8 @@ module _ (tb : Table) (log : List ℕ) (s : Sound tb) (x : TxId) (y : RmId) wher
   only-answered : (ss : List Signal) → Addressed tb ask ss
       → ((h : List Note) → MayAsk t r h → (l : Story) → Agrees (viewOf t tb) l → Move t h Note.nothing (map (messageOf tb ask) ss) l l (viewOf t tb) (viewOf t tb))
       → Own tb ask log t (saying ss (quietly tb log))
-  unfolding story told
-  only-answered ss addressed moves = record { records = []; valid = each-nothing Valid; bytes = nothing-written; other-story = λ u d q. refl; other-view = λ u d. refl; judged = judged-nothing tb log (tb .used) refl; addressed = addressed; move = moves }
+  unfolding told
+  only-answered ss addressed moves = unwritten tb ask log t tb ss addressed refl (λ u d. refl) moves
 
   again-kept : (e : Enlistment) → (toldAgain r e .holder ≡ e .holder) × (toldAgain r e .kind ≡ e .kind)
   again-kept e = by-cases (λ (w : Enlistment). (w .holder ≡ e .holder) × (w .kind ≡ e .kind)) (isUndone r e && isIn enlistment.failedToNotify e) (inState enlistment.toldCommit e) e (λ _. (refl, refl)) (λ _. (refl, refl))

@@ -118,19 +118,18 @@ module _ (tb : Table) (e : Event) where
   addressed-both a b p q s m = by-either (p s) (q s) (List·Memᴰ·append-cases a m)
 
 module _ (t : Id) (tb : Table) (e : Event) (ss : List Signal) where
-  pub none-committed : Only notCommitted ss → New t Committed (map (messageOf tb e) ss) → ⊥
+  none-such : (P : Name → Type 0) (f : Name → Bool) → ((a : Name) → f a ≡ true → P a → ⊥) → Only f ss → New t P (map (messageOf tb e) ss) → ⊥
   unfolding messageOf
-  none-committed o m = go (of-map (messageOf tb e) ss (m .there))
+  none-such P f not-named o m = go (of-map (messageOf tb e) ss (m .there))
     where
       go : Some (λ s. messageOf tb e s ≡ m .it) ss → ⊥
-      go s = is-not-committed (s .it .name) (o (s .it) (s .there)) (rw (← s .holds) at (m .holds .1))
+      go s = not-named (s .it .name) (o (s .it) (s .there)) (rw (← s .holds) at (m .holds .1))
+
+  pub none-committed : Only notCommitted ss → New t Committed (map (messageOf tb e) ss) → ⊥
+  none-committed = none-such Committed notCommitted is-not-committed
 
   pub none-aborted : Only notAborted ss → New t Aborted (map (messageOf tb e) ss) → ⊥
-  unfolding messageOf
-  none-aborted o m = go (of-map (messageOf tb e) ss (m .there))
-    where
-      go : Some (λ s. messageOf tb e s ≡ m .it) ss → ⊥
-      go s = is-not-aborted (s .it .name) (o (s .it) (s .there)) (rw (← s .holds) at (m .holds .1))
+  none-aborted = none-such Aborted notAborted is-not-aborted
 
   pub quiet : Only notCommitted ss → Only notAborted ss → Quiet t (map (messageOf tb e) ss)
   quiet a b = record { no-committed = none-committed a; no-aborted = none-aborted b }

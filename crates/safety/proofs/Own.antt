@@ -65,6 +65,22 @@ pub record Own (tb : Table) (e : Event) (log : List ℕ) (t : Id) (o : Outcome) 
   pub move : (h : List Note) → Makes careful h e → (l : Story) → Agrees (viewOf t tb) l
       → Move t h (noteOf tb e) (map (messageOf tb e) (o .signals)) l (story t l records) (viewOf t tb) (viewOf t (o .table))
 
+-- an outcome that writes nothing
+pub unwritten : (tb : Table) (e : Event) (log : List ℕ) (t : Id) (tb₂ : Table) (ss : List Signal) → Addressed tb e ss → tb₂ .used ≡ tb .used → ((u : Id) → (u ≡ t → ⊥) → viewOf u tb₂ ≡ viewOf u tb)
+    → ((h : List Note) → Makes careful h e → (l : Story) → Agrees (viewOf t tb) l → Move t h (noteOf tb e) (map (messageOf tb e) ss) l l (viewOf t tb) (viewOf t tb₂))
+    → Own tb e log t (record { table = tb₂; log = log; signals = ss })
+unfolding story allBytes
+unwritten tb e log t tb₂ ss addressed same-used others move = record {
+  records = [];
+  valid = each-nothing Valid;
+  bytes = rw same-used (sym (append-nil (take (tb .used) log)));
+  other-story = λ u d s. refl;
+  other-view = others;
+  judged = judged-nothing tb log (tb₂ .used) same-used;
+  addressed = addressed;
+  move = move;
+}
+
 -- ── ends of which no record is written ──────────────────────────────────────────────────────────────────────────
 
 pub used-goes : (p s : ℕ) (f : Enlistment → Enlistment) (tb : Table) → goTo p s (changeHeld p f tb) .used ≡ tb .used
@@ -108,24 +124,9 @@ module _ (tb : Table) (e : Event) (log : List ℕ) (t : Id) (p : ℕ) (tb₁ : T
   home : Each (λ x. Owned tb (subjectOf tb e) (x .number)) hs₁
   home x m = rw about (z .owned x m)
 
-  nothing-added : take (tb .used) log ≡ take (tb .used) log ++ allBytes []
-  unfolding allBytes
-  nothing-added = sym (append-nil (take (tb .used) log))
-
-  -- an outcome that writes nothing
   pub unlogged : (tb₂ : Table) (ss : List Signal) → Addressed tb e ss → tb₂ .used ≡ tb₁ .used → ((u : Id) → (u ≡ t → ⊥) → viewOf u tb₂ ≡ viewOf u tb₁) → Moves ss tb₂
       → Own tb e log t (record { table = tb₂; log = log; signals = ss })
-  unfolding story
-  unlogged tb₂ ss addressed same-used others move = record {
-    records = [];
-    valid = each-nothing Valid;
-    bytes = rw (same-used ∙ z .used) nothing-added;
-    other-story = λ u d s. refl;
-    other-view = λ u d. others u d ∙ z .other-view u d;
-    judged = judged-nothing tb log (tb₂ .used) (same-used ∙ z .used);
-    addressed = addressed;
-    move = move;
-  }
+  unlogged tb₂ ss addressed same-used others move = unwritten tb e log t tb₂ ss addressed (same-used ∙ z .used) (λ u d. others u d ∙ z .other-view u d) move
 
   -- ── abort ─────────────────────────────────────────────────────────────────────────────────────────────────────
 

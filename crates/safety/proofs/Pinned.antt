@@ -34,6 +34,12 @@ breaks {host} {w} r later sooner e a c = (
       (record { it = later; there = rw e (List·Memᴰ·head refl); holds = a }),
 )
 
+abbrev app-committed : Issued
+app-committed = issued header name.AppCommitted 0
+
+abbrev app-aborted : Issued
+app-aborted = issued header name.AppAborted 0
+
 -- ── an identifier begun twice ───────────────────────────────────────────────────────────────────────────────────
 
 -- 7 commits, is begun again and rolled back
@@ -41,14 +47,8 @@ pub begun-twice : Breaks beginsAgain
 unfolding playing
 begun-twice = breaks (leave (does (does (leave (store (does (does (restarts start (spare, refl, refl))
     (begin 7) (refl, refl) tt) (commit 7) (refl, refl) tt) header (header, [], refl, refl))
-    committed (List·Memᴰ·head refl) ([], refl)) (begin 7) (refl, refl) tt) (rollback 7) (refl, refl) tt)
-    aborted (List·Memᴰ·head refl) ([], refl)) aborted committed refl (refl, inr (inl refl)) (refl, inr (inl refl))
-  where
-    committed : Issued
-    committed = issued header name.AppCommitted 0
-
-    aborted : Issued
-    aborted = issued header name.AppAborted 0
+    app-committed (List·Memᴰ·head refl) ([], refl)) (begin 7) (refl, refl) tt) (rollback 7) (refl, refl) tt)
+    app-aborted (List·Memᴰ·head refl) ([], refl)) app-aborted app-committed refl (refl, inr (inl refl)) (refl, inr (inl refl))
 
 -- ── an ask after the acknowledgement ────────────────────────────────────────────────────────────────────────────
 
@@ -102,14 +102,8 @@ pub earlier-handed : Breaks handsAny
 unfolding playing begun
 earlier-handed = breaks (leave (step (leave (store (does (does (restarts start (spare, refl, refl))
     (begin 7) tt (λ m. List·Memᴰ·not-nil m)) (commit 7) tt tt) header (header, [], refl, refl))
-    committed (List·Memᴰ·head refl) ([], refl)) (rollback 7) (begun .table) (begun .log) tt (λ _. tt))
-    aborted (List·Memᴰ·head refl) ([], refl)) aborted committed refl (refl, inr (inl refl)) (refl, inr (inl refl))
-  where
-    committed : Issued
-    committed = issued header name.AppCommitted 0
-
-    aborted : Issued
-    aborted = issued header name.AppAborted 0
+    app-committed (List·Memᴰ·head refl) ([], refl)) (rollback 7) (begun .table) (begun .log) tt (λ _. tt))
+    app-aborted (List·Memᴰ·head refl) ([], refl)) app-aborted app-committed refl (refl, inr (inl refl)) (refl, inr (inl refl))
 
 -- ── a log that is not trimmed ───────────────────────────────────────────────────────────────────────────────────
 
