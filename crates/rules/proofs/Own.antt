@@ -1,4 +1,5 @@
--- An accepted step is a part of Parts at the place of its own transaction; Re-enlisted is one for each transaction that holds this RM.
+-- An accepted step leaves a sound table sound: it is a part of Parts at the place of its own transaction, and at every other place nothing changes. Re-enlisted is
+-- one for each transaction that holds this RM.
 use Prim.Native.Nat.{ℕ, _≤_}
 use native.Mathlib.Omega.{arith}
 use mathlib.Core.Path.{_≡_, refl, sym, _∙_, subst}

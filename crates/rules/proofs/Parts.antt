@@ -1,4 +1,5 @@
--- The parts that steps are made of, each about the transaction at one place p: what is asked of it before, and that it is as it may be after.
+-- The parts that steps are made of. Each changes the transaction at one place p and nothing else: so that the others stay as they may be, of this one the table of
+-- states has to be looked up once, and the room changes by what p alone writes.
 use Prim.Native.Nat.{ℕ, _+_, _*_, _≤_, _<_}
 use native.Mathlib.Omega.{arith}
 use mathlib.Core.Path.{_≡_, refl, sym, _∙_, ap, subst}

@@ -1,4 +1,4 @@
--- A new entry in the lowest empty place keeps what every change keeps, if it is like nothing that stands there.
+-- A new entry in the lowest empty place keeps what every change keeps: all others stand where they stood, and it is like none of them.
 use Prim.Native.Nat.{ℕ, _≤_, _<_}
 use native.Mathlib.Omega.{arith}
 use mathlib.Core.Path.{_≡_, sym, _∙_, subst}

@@ -1,4 +1,5 @@
--- One transaction, seen alone: what a log tells of it, how a table shows it, and what is always true of both.
+-- One transaction, seen alone: what a log tells of it, how a table shows it, and what is always true of both. A story only goes on, from none to open to closed:
+-- so to tell less is an order, and each law of it goes by the cases of two stories.
 use Prim.Native.Nat.{ℕ}
 use native.Mathlib.Omega.{arith}
 use mathlib.Core.Path.{_≡_, refl, _∙_, ap}

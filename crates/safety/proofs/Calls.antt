@@ -1,4 +1,5 @@
--- The events that name a transaction: what Begin, Enlist, Commit, Rollback and Ask are to it.
+-- Begin, Enlist, Commit, Rollback and Ask: the transaction that they name stands at one place, so that what they do there shows in its view alone, and is one of
+-- its moves.
 use Prim.Native.Nat.{ℕ}
 use native.Mathlib.Omega.{arith}
 use mathlib.Core.Path.{_≡_, refl, sym, _∙_, ap}

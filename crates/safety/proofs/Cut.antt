@@ -1,4 +1,5 @@
--- Storing, leaving and restarting keep what is always true of one transaction.
+-- A cut keeps what is always true of one transaction. The stored log tells less than the log, and storing adds to it; a message leaves with its log stored; and a
+-- restart goes back to what the stored log tells, in which whatever was said of the transaction stands.
 use Prim.Native.Nat.{ℕ}
 use mathlib.Core.Path.{_≡_, refl}
 use mathlib.Core.Logic.{_⊎_, inl, inr, ⊎-elim}

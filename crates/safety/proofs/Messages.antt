@@ -1,4 +1,5 @@
--- Messages: whom the signals of an event are about, and which of them are no verdict. Safety asks no more of them than their names.
+-- A signal goes to an enlistment that the event's own transaction holds, or to the application: so that it is about that transaction. Whether it is a verdict, its
+-- name says.
 use Prim.Native.Nat.{ℕ}
 use mathlib.Core.Path.{_≡_, refl, sym, _∙_, ap}
 use mathlib.Core.Logic.{_⊎_, inl, inr}

@@ -1,4 +1,5 @@
--- The moves of one transaction, and that each keeps what is always true.
+-- Each move of one transaction keeps what is always true of it, since it asks for whatever it might break: commit is said once all have voted yes, and with the
+-- record in the log if anybody may ask; abort is said only where no commit was said or written.
 use Prim.Native.Nat.{ℕ}
 use native.Mathlib.Omega.{arith}
 use mathlib.Core.Path.{_≡_, refl, sym, _∙_, ap}

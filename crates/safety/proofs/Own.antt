@@ -1,5 +1,5 @@
--- What is shown of what an event does: it is a move of its own transaction, and leaves every other one alone. Here of the parts that
--- the events share: abort, decide, the end, start of phase one.
+-- An event changes the state of one transaction and of what it holds: so it is a move of that one, and leaves every other one alone, of which neither place nor
+-- record changes. Here of the parts that the events share: abort, decide, the end, start of phase one.
 use Prim.Native.Nat.{ℕ, _+_, _*_, _-_, _≤_, _<_}
 use native.Mathlib.Omega.{arith}
 use mathlib.Core.Path.{_≡_, refl, sym, _∙_, ap, ap₂}

@@ -1,4 +1,5 @@
--- The events about one enlistment: what each reaction is to the transaction that holds it.
+-- The events about one enlistment. Its state tells that of its transaction, since the table is sound; and then what becomes of the enlistment, and what follows, is
+-- one of that transaction's moves.
 use Prim.Native.Nat.{ℕ, _+_, _≤_}
 use native.Mathlib.Omega.{arith}
 use native.Mathlib.Decide.{ℕ-discrete}

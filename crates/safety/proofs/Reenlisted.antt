@@ -1,4 +1,5 @@
--- A finished re-enlistment, which may end several transactions: what it is to each of them.
+-- A finished re-enlistment makes Done what this resource manager holds in 8, and with that closes its own right to ask, in each transaction alike. So to each it is
+-- a move: it ends if all are Done now, and else goes on; whoever else waits there waits as before.
 use Prim.Native.Nat.{ℕ, suc}
 use native.Mathlib.Omega.{arith}
 use mathlib.Core.Path.{_≡_, refl, sym, _∙_, ap}

@@ -1,4 +1,5 @@
--- The table that a restart makes of open transactions that fit is sound.
+-- The table that a restart makes of open transactions that fit is sound: each stands at its place in the list, its entries are held at that place and at no other,
+-- and names, numbers and resource managers are as the judgements have found them.
 use Prim.Native.Nat.{ℕ, zero, suc, _+_, _*_, _-_, _≤_, _<_}
 use native.Mathlib.Omega.{arith}
 use mathlib.Core.Path.{_≡_, refl, sym, _∙_, ap}

@@ -1,4 +1,5 @@
--- Every accepted step is a move of every transaction: its own move of the one that the event is about, and none of the others.
+-- Every accepted step is a move of every transaction: of the one that the event is about by what was shown of each event, and none of the others, since record,
+-- place, note and messages are about that one.
 use Prim.Native.Nat.{ℕ}
 use native.Mathlib.Omega.{arith}
 use mathlib.Core.Path.{_≡_, refl, sym, _∙_, ap, subst}

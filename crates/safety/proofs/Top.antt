@@ -1,4 +1,5 @@
--- Demand 3 follows from what has to be shown of a step and of a restart: each keeps, of every transaction alone, what is always true.
+-- Demand 3 follows from what has to be shown of a step and of a restart: each keeps, of every transaction alone, what is always true; and so does a run of them, one
+-- after the other.
 use Prim.Native.Nat.{ℕ}
 use native.Mathlib.Omega.{arith}
 use mathlib.Core.Path.{_≡_, refl, sym, _∙_, ap}

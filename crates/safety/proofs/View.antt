@@ -1,4 +1,5 @@
--- How a table shows a transaction, and that a change of one shows in its own view and in no other.
+-- A table shows a transaction by what stands at its place. No two stand at one place, and what is held names the place: so that a change at one place shows in the
+-- view of the transaction there, and in no other.
 use Prim.Native.Nat.{ℕ, zero, suc}
 use native.Mathlib.Omega.{arith}
 use mathlib.Core.Path.{_≡_, refl, sym, _∙_, ap}
