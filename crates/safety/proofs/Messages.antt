@@ -138,10 +138,10 @@ module _ (t : Id) (tb : Table) (e : Event) (ss : List Signal) where
   -- verdicts are about the event's transaction alone
   pub quiet-other : (t ≡ subjectOf tb e → ⊥) → Addressed tb e ss → Quiet t (map (messageOf tb e) ss)
   unfolding messageOf
-  quiet-other d ad = record { no-committed = λ m. committed m (of-map (messageOf tb e) ss (m .there)); no-aborted = λ m. aborted m (of-map (messageOf tb e) ss (m .there)) }
+  quiet-other d addressed = record { no-committed = λ m. committed m (of-map (messageOf tb e) ss (m .there)); no-aborted = λ m. aborted m (of-map (messageOf tb e) ss (m .there)) }
     where
       committed : (m : New t Committed (map (messageOf tb e) ss)) → Some (λ s. messageOf tb e s ≡ m .it) ss → ⊥
-      committed m s = by-either (λ w. d (sym (m .holds .0) ∙ sym (ap (λ (m : Message). m .about) (s .holds)) ∙ w)) (λ w. is-not-committed (s .it .name) (w .0) (rw (← s .holds) at (m .holds .1))) (ad (s .it) (s .there))
+      committed m s = by-either (λ w. d (sym (m .holds .0) ∙ sym (ap (λ (m : Message). m .about) (s .holds)) ∙ w)) (λ w. is-not-committed (s .it .name) (w .0) (rw (← s .holds) at (m .holds .1))) (addressed (s .it) (s .there))
 
       aborted : (m : New t Aborted (map (messageOf tb e) ss)) → Some (λ s. messageOf tb e s ≡ m .it) ss → ⊥
-      aborted m s = by-either (λ w. d (sym (m .holds .0) ∙ sym (ap (λ (m : Message). m .about) (s .holds)) ∙ w)) (λ w. is-not-aborted (s .it .name) (w .1) (rw (← s .holds) at (m .holds .1))) (ad (s .it) (s .there))
+      aborted m s = by-either (λ w. d (sym (m .holds .0) ∙ sym (ap (λ (m : Message). m .about) (s .holds)) ∙ w)) (λ w. is-not-aborted (s .it .name) (w .1) (rw (← s .holds) at (m .holds .1))) (addressed (s .it) (s .there))

@@ -103,8 +103,8 @@ module _ (R : Refines) where
     pub stored : Stored (w .disk)
     pub base : BaseOf w (λ t. storyOf t (w .disk))
 
-  abbrev pub Inv : World → Type 0
-  Inv w = Alive w ⊎ Dead w
+  abbrev pub Always : World → Type 0
+  Always w = Alive w ⊎ Dead w
 
   silent-quiet : (t : Id) → Quiet t []
   silent-quiet t = record { no-committed = λ m. List·Memᴰ·not-nil (m .there); no-aborted = λ m. List·Memᴰ·not-nil (m .there) }
@@ -149,10 +149,10 @@ module _ (R : Refines) where
       move : (t : Id) → Move t (w .notes) (noteOf (w .table) e) (map (messageOf (w .table) e) (s .signals)) (storyOf t (usedPart (w .table) (w .log))) (storyOf t (usedPart (s .table) (s .log))) (viewOf t (w .table)) (viewOf t (s .table))
       move t = f .moves (w .notes) made t (agrees t (viewOf t (w .table)) (storyOf t (usedPart (w .table) (w .log))) (w .notes) (w .waiting) (w .sent) (w .issued) (a .shape t))
 
-  stepped : (w : World) (e : Event) → (stepOf (w .table) e (w .log) .refusal ≡ 0 → Makes careful (w .notes) e) → Inv w → Inv (afterStep w (w .table) e (stepOf (w .table) e (w .log)))
+  stepped : (w : World) (e : Event) → (stepOf (w .table) e (w .log) .refusal ≡ 0 → Makes careful (w .notes) e) → Always w → Always (afterStep w (w .table) e (stepOf (w .table) e (w .log)))
   stepped w e made i = go (eqb (stepOf (w .table) e (w .log) .refusal) 0) refl i
     where
-      go : (b : Bool) → eqb (stepOf (w .table) e (w .log) .refusal) 0 ≡ b → Inv w → Inv (afterStep w (w .table) e (stepOf (w .table) e (w .log)))
+      go : (b : Bool) → eqb (stepOf (w .table) e (w .log) .refusal) 0 ≡ b → Always w → Always (afterStep w (w .table) e (stepOf (w .table) e (w .log)))
       go true r (inl a) = inl (accepted-alive w e (stepOf (w .table) e (w .log)) r (made (eqb-true (stepOf (w .table) e (w .log) .refusal) 0 r)) (accepts (w .table) e (w .log) r (a .formed)) a)
       go true r (inr d) = absurd (false≢true (sym (zero-unsound (w .table) (d .none-used)) ∙ needs-sound (w .table) e (w .log) r))
       go false r (inl a) = inl (refused-alive w e (stepOf (w .table) e (w .log)) r (refuses (w .table) e (w .log) r) a)
@@ -201,17 +201,17 @@ module _ (R : Refines) where
       same t = below-both (storyOf t disk) (storyOf t (w .disk)) (rw q at (story-prefix t disk rest))
           (below-trans (storyOf t (w .disk)) (storyOf t (usedPart (w .table) (w .log))) (storyOf t disk) (l .base t .below) (rw p (story-prefix t (usedPart (w .table) (w .log)) a)))
 
-  stored-inv : (w : World) (disk : List ℕ) → MoreStored w disk → Inv w → Inv (withDisk disk w)
+  stored-inv : (w : World) (disk : List ℕ) → MoreStored w disk → Always w → Always (withDisk disk w)
   stored-inv w disk m (inl a) = inl (stored-alive w disk m a)
   stored-inv w disk m (inr d) = inr (stored-dead w disk m d)
 
-  trimmed-inv : (w : World) (disk : List ℕ) → Trimmed w disk → Inv w → Inv (withDisk disk w)
+  trimmed-inv : (w : World) (disk : List ℕ) → Trimmed w disk → Always w → Always (withDisk disk w)
   trimmed-inv w disk m (inl a) = inl (trimmed-alive w disk m a)
   trimmed-inv w disk m (inr d) = absurd (m .0 (d .none-used))
 
   -- ── leaving ───────────────────────────────────────────────────────────────────────────────────────────────────
 
-  left-inv : (w : World) (i : Issued) → i ∈ w .waiting → (rest : List ℕ) → w .disk ≡ i .image ++ rest → Inv w → Inv (afterLeaving i w)
+  left-inv : (w : World) (i : Issued) → i ∈ w .waiting → (rest : List ℕ) → w .disk ≡ i .image ++ rest → Always w → Always (afterLeaving i w)
   unfolding afterLeaving
   left-inv w i m rest p (inl a) = inl (record {
     formed = a .formed;
@@ -227,15 +227,15 @@ module _ (R : Refines) where
 
   -- ── restarting ────────────────────────────────────────────────────────────────────────────────────────────────
 
-  stored-of : (w : World) → Inv w → Stored (w .disk)
+  stored-of : (w : World) → Always w → Stored (w .disk)
   stored-of w (inl a) = a .stored
   stored-of w (inr d) = d .stored
 
-  base-restart : (w : World) → Inv w → (t : Id) → Base t (storyOf t) (storyOf t (w .disk)) (storyOf t (w .disk)) (w .notes) [] (w .sent) (w .issued)
+  base-restart : (w : World) → Always w → (t : Id) → Base t (storyOf t) (storyOf t (w .disk)) (storyOf t (w .disk)) (w .notes) [] (w .sent) (w .issued)
   base-restart w (inl a) t = keep-restart t (storyOf t) (storyOf t (usedPart (w .table) (w .log))) (storyOf t (w .disk)) (w .notes) (w .issued) (w .waiting) (w .sent) (a .base t)
   base-restart w (inr d) t = keep-restart t (storyOf t) (storyOf t (w .disk)) (storyOf t (w .disk)) (w .notes) (w .issued) (w .waiting) (w .sent) (d .base t)
 
-  restart-alive : (w : World) (s : Restart) → Restores viewOf storyOf Formed (w .disk) s → Inv w → Alive (afterRestart w s)
+  restart-alive : (w : World) (s : Restart) → Restores viewOf storyOf Formed (w .disk) s → Always w → Alive (afterRestart w s)
   unfolding afterRestart
   restart-alive w s f i = record {
     formed = f .formed;
@@ -244,20 +244,20 @@ module _ (R : Refines) where
     shape = λ t. rw (f .same-story t) (shape-restart t (storyOf t) (storyOf t (w .disk)) (storyOf t (w .disk)) (w .notes) (w .issued) [] (w .sent) (base-restart w i t) (viewOf t (s .table)) (f .restored t));
   }
 
-  restart-dead : (w : World) (s : Restart) → s .table .used ≡ 0 → Inv w → Dead (afterRestart w s)
+  restart-dead : (w : World) (s : Restart) → s .table .used ≡ 0 → Always w → Dead (afterRestart w s)
   unfolding afterRestart
   restart-dead w s u i = record { none-used = u; stored = stored-of w i; base = base-restart w i }
 
-  restarted : (w : World) (spare : List ℕ) → Inv w → Inv (afterRestart w (restartOf (w .disk ++ spare) (length (w .disk))))
+  restarted : (w : World) (spare : List ℕ) → Always w → Always (afterRestart w (restartOf (w .disk ++ spare) (length (w .disk))))
   restarted w spare i = go (eqb (restartOf (w .disk ++ spare) (length (w .disk)) .refusal) 0) refl
     where
-      go : (b : Bool) → eqb (restartOf (w .disk ++ spare) (length (w .disk)) .refusal) 0 ≡ b → Inv (afterRestart w (restartOf (w .disk ++ spare) (length (w .disk))))
+      go : (b : Bool) → eqb (restartOf (w .disk ++ spare) (length (w .disk)) .refusal) 0 ≡ b → Always (afterRestart w (restartOf (w .disk ++ spare) (length (w .disk))))
       go true r = inl (restart-alive w (restartOf (w .disk ++ spare) (length (w .disk))) (restart-accepts (w .disk) spare (stored-of w i .rest) (stored-of w i .whole) r) i)
       go false r = inr (restart-dead w (restartOf (w .disk ++ spare) (length (w .disk))) (restart-refuses (w .disk ++ spare) (length (w .disk)) r) i)
 
   -- ── the whole ─────────────────────────────────────────────────────────────────────────────────────────────────
 
-  empty-inv : Inv empty
+  empty-inv : Always empty
   unfolding empty
   empty-inv = inr (record {
     none-used = refl;
@@ -290,21 +290,21 @@ module _ (R : Refines) where
       no-ask : {t r : Id} → MayAsk t r [] → ⊥
       no-ask m = elim m [ ]
 
-  pub inv : {w : World} → Run careful w → Inv w
-  inv start = empty-inv
-  inv (step {w} r e tb log (p, q) made) = rw (p, q) (stepped w e (rw (p, q) at made) (inv r))
-  inv (store {w} r disk m) = stored-inv w disk m (inv r)
-  inv (trim {w} r disk m) = trimmed-inv w disk m (inv r)
-  inv (leave {w} r i m (rest, p)) = left-inv w i m rest p (inv r)
-  inv (restart {w} r log n (spare, p, q)) = rw (p, q) (restarted w spare (inv r))
+  pub always : {w : World} → Run careful w → Always w
+  always start = empty-inv
+  always (step {w} r e tb log (p, q) made) = rw (p, q) (stepped w e (rw (p, q) at made) (always r))
+  always (store {w} r disk m) = stored-inv w disk m (always r)
+  always (trim {w} r disk m) = trimmed-inv w disk m (always r)
+  always (leave {w} r i m (rest, p)) = left-inv w i m rest p (always r)
+  always (restart {w} r log n (spare, p, q)) = rw (p, q) (restarted w spare (always r))
 
   safe-base : (w : World) (l : Id → Story) → BaseOf w l → Safe w
   safe-base w l b = record { never-both = λ t c a. b t .both (inr c) (inr a); only-if = λ t c. b t .good-committed (inr c) }
 
-  safe-inv : (w : World) → Inv w → Safe w
+  safe-inv : (w : World) → Always w → Safe w
   safe-inv w (inl a) = safe-base w (λ t. storyOf t (usedPart (w .table) (w .log))) (a .base)
   safe-inv w (inr d) = safe-base w (λ t. storyOf t (w .disk)) (d .base)
 
   pub demand3 : Demand3
   unfolding Demand3
-  demand3 w r = safe-inv w (inv r)
+  demand3 w r = safe-inv w (always r)
