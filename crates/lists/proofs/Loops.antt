@@ -4,7 +4,6 @@ use native.Mathlib.Omega.{arith}
 use native.Mathlib.Nat.{le-of-suc-le-suc, not-suc-le-zero}
 use native.Mathlib.Numerals.{add-one}
 use mathlib.Core.Path.{_≡_, refl, ap, sym, _∙_}
-use mathlib.Core.Logic.{_⊎_, inl, inr}
 use mathlib.Core.Bool.{Bool, true, false, cond, not, _&&_, _||_}
 use mathlib.Core.List.{List, [], _∷_, _++_, map, append-nil, append-assoc}
 use lib.ListN.{length, getD, set, take, drop, length-set, length-map, drop-of-length-le}
@@ -12,8 +11,8 @@ use lib.Seq.{drop-cons, take-all, take-suc-set}
 use lib.Dec.{eqb}
 use borrow.Author.Tests.{eq-eqb, ne-eqb, eqb-true, eqb-false}
 use Rattle.lists.specs.Lists.{all, any, filter, count, firstOr}
-use Rattle.lists.specs.Places.{placeFrom, placeOf, atFrom, at, changeAt}
-use Rattle.lists.proofs.Tests.{by-test, by-either}
+use Rattle.lists.specs.Places.{placeFrom, placeOf, at, changeAt}
+use Rattle.lists.proofs.Tests.{by-test}
 use Rattle.lists.proofs.Places.{at-is, change-is}
 
 -- an array's own length, from what owning it tells: `search long`
@@ -76,15 +75,8 @@ module _ {A : Type 0} {f : A → Bool} {n : ℕ} {l : List A} where
   unfolding placeFrom
   seek-done {i} p h = sym (rw (drop-done l i (omega arith)) at (p .same))
 
--- what the place that was found says: whether any passes, and which is the first
+-- what the place that was found says: whether any passes
 module _ {A : Type 0} (f : A → Bool) where
-  none-or-from : (k : ℕ) (xs : List A) → (placeFrom f k xs ≡ 0) ⊎ (k ≤ placeFrom f k xs)
-  unfolding placeFrom
-  none-or-from k [] = inl refl
-  none-or-from k (x ∷ xs) = by-test (f x)
-      (λ e. rw e (inr (omega arith)))
-      (λ e. rw e (by-either (λ n. inl n) (λ h. inr (omega arith)) (none-or-from (suc k) xs)))
-
   any-from : (k : ℕ) (xs : List A) → 0 < k → any f xs ≡ not (eqb (placeFrom f k xs) 0)
   unfolding any placeFrom
   any-from k [] h = refl
@@ -92,17 +84,6 @@ module _ {A : Type 0} (f : A → Bool) where
 
   pub any-place : (xs : List A) → any f xs ≡ not (eqb (placeOf f xs) 0)
   any-place xs = any-from 1 xs (omega arith)
-
-  first-from : (d : A) (k : ℕ) (xs : List A) → 0 < k → firstOr d f xs ≡ atFrom d k (placeFrom f k xs) xs
-  unfolding firstOr placeFrom atFrom
-  first-from d k [] h = refl
-  first-from d k (x ∷ xs) h = by-test (f x)
-      (λ e. rw (e, eq-eqb k k refl))
-      (λ e. rw (e, ne-eqb k (placeFrom f (suc k) xs) (λ q. by-either (λ n. omega arith) (λ l. omega arith) (none-or-from (suc k) xs)))
-      (first-from d (suc k) xs (omega arith)))
-
-  pub first-at-place : (d : A) (xs : List A) → firstOr d f xs ≡ at d (placeOf f xs) xs
-  first-at-place d xs = first-from d 1 xs (omega arith)
 
 -- what a count says: whether any passes, and whether all do
 module _ {A : Type 0} (f : A → Bool) where

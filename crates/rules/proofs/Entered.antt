@@ -12,7 +12,7 @@ use Rattle.lists.specs.Lists.{any}
 use Rattle.lists.specs.Members.{_∈_, Each, Some}
 use Rattle.lists.specs.Places.{putLowest}
 use Rattle.lists.proofs.Tests.{by-test, by-either, no-clash, true-and, and-true, and-false, none-each, each-nothing}
-use Rattle.lists.proofs.Places.{IsPlace, IsFirst, at-member, place-first, place-none, of-put, put-keeps}
+use Rattle.lists.proofs.Places.{place-first, place-none, of-put, put-keeps}
 use Rattle.rules.specs.declared.Transaction.{Transaction}
 use Rattle.rules.specs.declared.Enlistment.{Enlistment}
 use Rattle.rules.specs.declared.Table.{Table}
@@ -65,12 +65,6 @@ begin-part t tb log s i n some = record {
 
     new : Each (λ y. Live y → t ≡ y .id .0 → ⊥) (tb .transactions)
     new y m l q = no-clash (isNamed t y) (and-true (live-true y l) (equal-same (y .id .0) t (sym q))) (none-each (isNamed t) (tb .transactions) (place-none (isNamed t) (tb .transactions) n) y m)
-
-    first : IsFirst isFree noTransaction (tb .transactions) (freePlace tb)
-    first = place-first isFree noTransaction (tb .transactions) some
-
-    not-named : (q : ℕ) → IsPlace (tb .transactions) q → isNamed t (transactionAt q tb) ≡ false
-    not-named q i = none-each (isNamed t) (tb .transactions) (place-none (isNamed t) (tb .transactions) n) (transactionAt q tb) (at-member noTransaction (tb .transactions) i)
 
 -- ── Enlist ──────────────────────────────────────────────────────────────────────────────────────────────────────
 

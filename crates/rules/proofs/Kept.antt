@@ -1,5 +1,5 @@
--- What every change of the rules keeps: all that makes a table sound but the table of states and the room in the log.
--- A change does one of three things at a place: nothing, another state, or it empties the place.
+-- A change does one of three things at a place: nothing, another state, or it empties the place. So it keeps all that makes a table sound but the
+-- table of states and the room in the log: what is asked of an entry does not speak of its state, and of an empty place nothing is asked.
 use Prim.Native.Nat.{ℕ, _≤_}
 use native.Mathlib.Omega.{arith}
 use mathlib.Core.Path.{_≡_, refl, sym, _∙_, ap, subst}
@@ -20,40 +20,49 @@ use Rattle.rules.specs.declared.Table.{Table}
 use Rattle.rules.specs.Sizes.{heldMost, headerSize, largestCapacity}
 use Rattle.rules.specs.Marks as mark
 use Rattle.rules.specs.Table.{noTransaction, noEnlistment, isLive, isHeld, isDurable, heldBy, held, transactionAt, inState, inTransactionState, ended, withTransactions, withEnlistments, changeTransaction, goTo, useMore}
-use Rattle.rules.specs.Sound.{liveOnes, heldOnes, PhaseZero, Volatile, Durable, Live, Held, Identifier, Number, Sound}
+use Rattle.rules.specs.Sound.{PhaseZero, Volatile, Durable, Live, Held, Identifier, Number, Sound}
 use Rattle.rules.proofs.Along.{Along, along-each, along-map, along-change, along-few, along-apart}
+
+-- what soundness asks of an enlistment by itself, and of a transaction
+pub record Proper (e : Enlistment) : Type 0 where
+  pub kind : Held e → (PhaseZero e ⊎ (Volatile e ⊎ Durable e)) × (e .mark ≤ mark.marked)
+  pub manager : Held e → Identifier (e .rm .0)
+  pub number : Held e → Number (e .number)
+  pub unmarked : Held e → PhaseZero e → e .mark ≡ mark.unmarked
+  pub empty : e .holder ≡ 0 → e ≡ noEnlistment
+
+pub record Named (x : Transaction) : Type 0 where
+  pub identifier : Live x → Identifier (x .id .0)
+  pub empty : x .state ≡ 0 → x ≡ noTransaction
+
+pub record KeptEnlistments (es : List Enlistment) : Type 0 where
+  pub proper : Each Proper es
+  pub numbers-differ : Apart (λ e f. e .number ≡ f .number) (filter isHeld es)
+  pub managers-differ : Apart (λ e f. (e .holder ≡ f .holder) × (e .rm .0 ≡ f .rm .0)) (filter isDurable (filter isHeld es))
+
+pub record KeptTransactions (xs : List Transaction) : Type 0 where
+  pub named : Each Named xs
+  pub differ : Apart (λ x y. x .id .0 ≡ y .id .0) (filter isLive xs)
 
 -- the sentences of Sound, but for states and room
 pub record Kept (tb : Table) : Type 0 where
-  pub kinds : Each (λ e. Held e → (PhaseZero e ⊎ (Volatile e ⊎ Durable e)) × (e .mark ≤ mark.marked)) (tb .enlistments)
-  pub transaction-identifiers : Each (λ x. Live x → Identifier (x .id .0)) (tb .transactions)
-  pub manager-identifiers : Each (λ e. Held e → Identifier (e .rm .0)) (tb .enlistments)
-  pub numbers : Each (λ e. Held e → Number (e .number)) (tb .enlistments)
-  pub transactions-differ : Apart (λ x y. x .id .0 ≡ y .id .0) (liveOnes tb)
-  pub numbers-differ : Apart (λ e f. e .number ≡ f .number) (heldOnes tb)
+  pub enlistments : KeptEnlistments (tb .enlistments)
+  pub transactions : KeptTransactions (tb .transactions)
   pub holders-live : Each (λ e. Held e → Live (transactionAt (e .holder) tb)) (tb .enlistments)
-  pub managers-differ : Apart (λ e f. (e .holder ≡ f .holder) × (e .rm .0 ≡ f .rm .0)) (filter isDurable (heldOnes tb))
   pub few : (p : ℕ) → Live (transactionAt p tb) → length (held p tb) ≤ heldMost
-  pub phase-zero-unmarked : Each (λ e. Held e → PhaseZero e → e .mark ≡ mark.unmarked) (tb .enlistments)
-  pub empty-transactions : Each (λ x. x .state ≡ 0 → x ≡ noTransaction) (tb .transactions)
-  pub empty-enlistments : Each (λ e. e .holder ≡ 0 → e ≡ noEnlistment) (tb .enlistments)
   pub header-used : headerSize ≤ tb .used
   pub capacity-small : tb .capacity ≤ largestCapacity
 
 pub sound-kept : {tb : Table} → Sound tb → Kept tb
 sound-kept s = record {
-  kinds = s .kinds;
-  transaction-identifiers = s .transaction-identifiers;
-  manager-identifiers = s .manager-identifiers;
-  numbers = s .numbers;
-  transactions-differ = s .transactions-differ;
-  numbers-differ = s .numbers-differ;
+  enlistments = record {
+    proper = λ e m. record { kind = s .kinds e m; manager = s .manager-identifiers e m; number = s .numbers e m; unmarked = s .phase-zero-unmarked e m; empty = s .empty-enlistments e m };
+    numbers-differ = s .numbers-differ;
+    managers-differ = s .managers-differ;
+  };
+  transactions = record { named = λ x m. record { identifier = s .transaction-identifiers x m; empty = s .empty-transactions x m }; differ = s .transactions-differ };
   holders-live = s .holders-live;
-  managers-differ = s .managers-differ;
   few = s .few;
-  phase-zero-unmarked = s .phase-zero-unmarked;
-  empty-transactions = s .empty-transactions;
-  empty-enlistments = s .empty-enlistments;
   header-used = s .header-used;
   capacity-small = s .capacity-small;
 }
@@ -123,29 +132,31 @@ keeping-durable e e′ k t =
     let (h, d) = true-and (isHeld e′) (isDurable e′) t in
     and-true (keeping-held e e′ k h) (rw (keeping-key k (true-held e′ h) .kind) at d)
 
+no-proper : Proper noEnlistment
+no-proper = record { kind = λ n. absurd (n refl); manager = λ n. absurd (n refl); number = λ n. absurd (n refl); unmarked = λ n. absurd (n refl); empty = λ n. refl }
+
+kept-enlistments : {es es′ : List Enlistment} → Along Keeping es es′ → KeptEnlistments es → KeptEnlistments es′
+kept-enlistments r k = record {
+  proper = along-each (keeping-holds no-proper (λ e s l q. record { kind = q .kind; manager = q .manager; number = q .number; unmarked = q .unmarked; empty = λ n. absurd (l n) })) r (k .proper);
+  numbers-differ = along-apart isHeld keeping-held
+      (λ x x′ y y′ s s′ t t′ q. sym (keeping-key s (true-held y t) .number) ∙ q ∙ keeping-key s′ (true-held y′ t′) .number) r (k .numbers-differ);
+  managers-differ = rw filter-filter (along-apart (λ e. isHeld e && isDurable e) keeping-durable
+      (λ x x′ y y′ s s′ t t′ q.
+      let a = keeping-key s (true-held y (true-and _ _ t .0)) in
+      let b = keeping-key s′ (true-held y′ (true-and _ _ t′ .0)) in
+      (sym (a .holder) ∙ q .0 ∙ b .holder, ap (λ i. i .0) (sym (a .rm)) ∙ q .1 ∙ ap (λ i. i .0) (b .rm)))
+      r (rw filter-filter at (k .managers-differ)));
+}
+
 pub kept-map : {tb : Table} (g : Enlistment → Enlistment) → Kept tb → Each (λ e. Keeping e (g e)) (tb .enlistments) → Kept (withEnlistments (map g (tb .enlistments)) tb)
 unfolding held
 kept-map {tb} g k h =
     let r : Along Keeping (tb .enlistments) (map g (tb .enlistments)) = along-map g (tb .enlistments) h in
     record {
-      kinds = along-each (keeping-holds (λ n. absurd (n refl)) (λ e s l q. q)) r (k .kinds);
-      transaction-identifiers = k .transaction-identifiers;
-      manager-identifiers = along-each (keeping-holds (λ n. absurd (n refl)) (λ e s l q. q)) r (k .manager-identifiers);
-      numbers = along-each (keeping-holds (λ n. absurd (n refl)) (λ e s l q. q)) r (k .numbers);
-      transactions-differ = k .transactions-differ;
-      numbers-differ = along-apart isHeld keeping-held
-          (λ x x′ y y′ s s′ t t′ q. sym (keeping-key s (true-held y t) .number) ∙ q ∙ keeping-key s′ (true-held y′ t′) .number) r (k .numbers-differ);
+      enlistments = kept-enlistments r (k .enlistments);
+      transactions = k .transactions;
       holders-live = along-each (keeping-holds (λ n. absurd (n refl)) (λ e s l q. q)) r (k .holders-live);
-      managers-differ = rw filter-filter (along-apart (λ e. isHeld e && isDurable e) keeping-durable
-          (λ x x′ y y′ s s′ t t′ q.
-          let a = keeping-key s (true-held y (true-and _ _ t .0)) in
-          let b = keeping-key s′ (true-held y′ (true-and _ _ t′ .0)) in
-          (sym (a .holder) ∙ q .0 ∙ b .holder, ap (λ i. i .0) (sym (a .rm)) ∙ q .1 ∙ ap (λ i. i .0) (b .rm)))
-          r (rw filter-filter at (k .managers-differ)));
       few = λ p l. omega (arith, k .few p l, along-few (heldBy p) (keeping-by p (live-some p tb l)) r);
-      phase-zero-unmarked = along-each (keeping-holds (λ n. absurd (n refl)) (λ e s l q. q)) r (k .phase-zero-unmarked);
-      empty-transactions = k .empty-transactions;
-      empty-enlistments = along-each (keeping-holds (λ n. refl) (λ e s l q n. absurd (l n))) r (k .empty-enlistments);
       header-used = k .header-used;
       capacity-small = k .capacity-small;
     }
@@ -174,19 +185,14 @@ pub kept-transactions : {tb : Table} {xs : List Transaction} → Kept tb → Alo
     → Kept (withTransactions xs tb)
 unfolding held
 kept-transactions {tb} {xs} k r back live = record {
-  kinds = k .kinds;
-  transaction-identifiers = along-each (turning-holds (λ n. absurd (n refl)) (λ x s l n h m. h l)) r (k .transaction-identifiers);
-  manager-identifiers = k .manager-identifiers;
-  numbers = k .numbers;
-  transactions-differ = along-apart isLive (λ x y s t. turning-key x y s t .0)
-      (λ x x′ y y′ s s′ t t′ q. ap (λ i. i .0) (sym (turning-key x y s t .1)) ∙ q ∙ ap (λ i. i .0) (turning-key x′ y′ s′ t′ .1)) r (k .transactions-differ);
-  numbers-differ = k .numbers-differ;
+  enlistments = k .enlistments;
+  transactions = record {
+    named = along-each (turning-holds (record { identifier = λ n. absurd (n refl); empty = λ n. refl }) (λ x s l n h. record { identifier = λ m. h .identifier l; empty = λ m. absurd (n m) })) r (k .transactions .named);
+    differ = along-apart isLive (λ x y s t. turning-key x y s t .0)
+        (λ x x′ y y′ s s′ t t′ q. ap (λ i. i .0) (sym (turning-key x y s t .1)) ∙ q ∙ ap (λ i. i .0) (turning-key x′ y′ s′ t′ .1)) r (k .transactions .differ);
+  };
   holders-live = live;
-  managers-differ = k .managers-differ;
   few = λ p l. k .few p (back p l);
-  phase-zero-unmarked = k .phase-zero-unmarked;
-  empty-transactions = along-each (turning-holds (λ n. refl) (λ x s l n h m. absurd (n m))) r (k .empty-transactions);
-  empty-enlistments = k .empty-enlistments;
   header-used = k .header-used;
   capacity-small = k .capacity-small;
 }
@@ -216,18 +222,10 @@ kept-end {tb} p k free = kept-transactions k
 pub kept-use : {tb : Table} (n : ℕ) → Kept tb → Kept (useMore n tb)
 unfolding useMore held
 kept-use n k = record {
-  kinds = k .kinds;
-  transaction-identifiers = k .transaction-identifiers;
-  manager-identifiers = k .manager-identifiers;
-  numbers = k .numbers;
-  transactions-differ = k .transactions-differ;
-  numbers-differ = k .numbers-differ;
+  enlistments = k .enlistments;
+  transactions = k .transactions;
   holders-live = k .holders-live;
-  managers-differ = k .managers-differ;
   few = k .few;
-  phase-zero-unmarked = k .phase-zero-unmarked;
-  empty-transactions = k .empty-transactions;
-  empty-enlistments = k .empty-enlistments;
   header-used = omega (arith, k .header-used);
   capacity-small = k .capacity-small;
 }

@@ -1,4 +1,5 @@
--- An accepted step is a part of Parts at the place of its own transaction; Re-enlisted is one for each transaction that holds this RM.
+-- An accepted step leaves a sound table sound: it is a part of Parts at the place of its own transaction, and at every other place nothing changes. Re-enlisted is
+-- one for each transaction that holds this RM.
 use Prim.Native.Nat.{ℕ, _≤_}
 use native.Mathlib.Omega.{arith}
 use mathlib.Core.Path.{_≡_, refl, sym, _∙_, subst}
@@ -75,18 +76,18 @@ pub record Accepts (a : Act) (t r : Id) (tb tb′ : Table) : Type 0 where
 sound-of : {tb : Table} → Kept tb → Room tb → ((q : ℕ) → Live (transactionAt q tb) → HoldsWell (stateAt q tb) (held q tb)) → Sound tb
 sound-of k r w = record {
   states = w;
-  kinds = k .kinds;
-  transaction-identifiers = k .transaction-identifiers;
-  manager-identifiers = k .manager-identifiers;
-  numbers = k .numbers;
-  transactions-differ = k .transactions-differ;
-  numbers-differ = k .numbers-differ;
+  kinds = λ e m. k .enlistments .proper e m .kind;
+  transaction-identifiers = λ x m. k .transactions .named x m .identifier;
+  manager-identifiers = λ e m. k .enlistments .proper e m .manager;
+  numbers = λ e m. k .enlistments .proper e m .number;
+  transactions-differ = k .transactions .differ;
+  numbers-differ = k .enlistments .numbers-differ;
   holders-live = k .holders-live;
-  managers-differ = k .managers-differ;
+  managers-differ = k .enlistments .managers-differ;
   few = k .few;
-  phase-zero-unmarked = k .phase-zero-unmarked;
-  empty-transactions = k .empty-transactions;
-  empty-enlistments = k .empty-enlistments;
+  phase-zero-unmarked = λ e m. k .enlistments .proper e m .unmarked;
+  empty-transactions = λ x m. k .transactions .named x m .empty;
+  empty-enlistments = λ e m. k .enlistments .proper e m .empty;
   header-used = k .header-used;
   room = r;
   capacity-small = k .capacity-small;

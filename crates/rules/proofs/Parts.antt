@@ -1,4 +1,5 @@
--- The parts that steps are made of, each about the transaction at one place p: what is asked of it before, and that it is as it may be after.
+-- The parts that steps are made of. Each changes the transaction at one place p and nothing else: so that the others stay as they may be, of this one the table of
+-- states has to be looked up once, and the room changes by what p alone writes.
 use Prim.Native.Nat.{ℕ, _+_, _*_, _≤_, _<_}
 use native.Mathlib.Omega.{arith}
 use mathlib.Core.Path.{_≡_, refl, sym, _∙_, ap, subst}
@@ -42,7 +43,7 @@ unfolding recordBytes
 forget-length t e = omega arith
 
 pub id-length : (p : ℕ) (tb : Table) → Kept tb → Live (transactionAt p tb) → length (idAt p tb) ≡ identifierSize
-id-length p tb k l = k .transaction-identifiers (transactionAt p tb) (Rattle.lists.proofs.Places.at-member noTransaction (tb .transactions) (live-place p tb l)) l .0
+id-length p tb k l = k .transactions .named (transactionAt p tb) (Rattle.lists.proofs.Places.at-member noTransaction (tb .transactions) (live-place p tb l)) .identifier l .0
 
 not-open-emptied : (p : ℕ) (tb : Table) → openAt p (emptied p tb) ≡ false
 not-open-emptied p tb = ap (λ x. isOpen (x .state) (held p (emptied p tb))) (at-emptied-place p tb)

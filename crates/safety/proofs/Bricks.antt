@@ -33,7 +33,7 @@ use Rattle.safety.specs.Host.{careful}
 use Rattle.safety.specs.Run.{Run, start, step, store, trim, leave, restart}
 use Rattle.safety.specs.Beyond.{NeverBricked}
 use Rattle.safety.proofs.Alone.{none}
-use Rattle.safety.proofs.Top.{Alive, Inv, inv, agrees}
+use Rattle.safety.proofs.Top.{Alive, Always, always, agrees}
 use Rattle.safety.proofs.Story.{storyOf, Formed, story-formed, mine, tells, valid-both}
 use Rattle.safety.proofs.View.{viewOf}
 use Rattle.safety.proofs.Open.{Fit, fit-nothing, fit-record, fit-all, open-both, fitting-both}
@@ -128,13 +128,13 @@ readable-more tb log e g w r = record {
     k : Same tb log (stepOf tb e log .table) (stepOf tb e log .log)
     k = step-same tb e log
 
-step-kept : (w : World) (e : Event) → Inv refines w → Kept (w .table) (w .log) → Kept (stepOf (w .table) e (w .log) .table) (stepOf (w .table) e (w .log) .log)
+step-kept : (w : World) (e : Event) → Always refines w → Kept (w .table) (w .log) → Kept (stepOf (w .table) e (w .log) .table) (stepOf (w .table) e (w .log) .log)
 step-kept w e i g = by-test (eqb (stepOf (w .table) e (w .log) .refusal) 0) (λ q. accepted q i g) (λ q. rw (step-refuses (w .table) e (w .log) q .table-kept, step-refuses (w .table) e (w .log) q .log-kept) g)
   where
     unused : eqb (stepOf (w .table) e (w .log) .refusal) 0 ≡ true → w .table .used ≡ 0 → ⊥
     unused q z = absurd (no-clash (soundOf (w .table)) (step-needs-sound (w .table) e (w .log) q) (zero-unsound (w .table) z))
 
-    accepted : eqb (stepOf (w .table) e (w .log) .refusal) 0 ≡ true → Inv refines w → Kept (w .table) (w .log) → Kept (stepOf (w .table) e (w .log) .table) (stepOf (w .table) e (w .log) .log)
+    accepted : eqb (stepOf (w .table) e (w .log) .refusal) 0 ≡ true → Always refines w → Kept (w .table) (w .log) → Kept (stepOf (w .table) e (w .log) .table) (stepOf (w .table) e (w .log) .log)
     accepted q i (inl z) = absurd (unused q z)
     accepted q (inr d) (inr g) = absurd (unused q (d .none-used))
     accepted q (inl a) (inr g) = inr (readable-more (w .table) (w .log) e g (step-writes (w .table) e (w .log) q (g .formed)) (ready w a g (step-needs-sound (w .table) e (w .log) q)))
@@ -256,7 +256,7 @@ restart-reads disk spare rest f = by-cases Reads (isOutside (disk ++ spare) (len
 
 -- ── every world ─────────────────────────────────────────────────────────────────────────────────────────────────
 
-stored-rest : (w : World) → Inv refines w → (rest : List ℕ) × Formed (w .disk ++ rest)
+stored-rest : (w : World) → Always refines w → (rest : List ℕ) × Formed (w .disk ++ rest)
 unfolding refines
 stored-rest w (inl a) = (a .stored .rest, a .stored .whole)
 stored-rest w (inr d) = (d .stored .rest, d .stored .whole)
@@ -264,12 +264,12 @@ stored-rest w (inr d) = (d .stored .rest, d .stored .whole)
 pub kept : {w : World} → Run careful w → Kept (w .table) (w .log)
 unfolding empty afterStep withDisk afterLeaving afterRestart
 kept start = inl refl
-kept (step {w} r e tb log (p, q) made) = rw (p, q) (step-kept w e (inv refines r) (kept r))
+kept (step {w} r e tb log (p, q) made) = rw (p, q) (step-kept w e (always refines r) (kept r))
 kept (store r disk m) = kept r
 kept (trim r disk m) = kept r
 kept (leave r i m l) = kept r
 kept (restart {w} r log n (spare, p, q)) = rw (p, q) (by-test (eqb (restartOf (w .disk ++ spare) (length (w .disk)) .refusal) 0)
-    (λ t. inr (restart-reads (w .disk) spare (stored-rest w (inv refines r) .0) (stored-rest w (inv refines r) .1) .gives t))
+    (λ t. inr (restart-reads (w .disk) spare (stored-rest w (always refines r) .0) (stored-rest w (always refines r) .1) .gives t))
     (λ t. inl (restart-refuses (w .disk ++ spare) (length (w .disk)) t)))
 
 -- what is used is the header and the records
@@ -354,4 +354,4 @@ pub restarts-well : (w : World) → Run careful w → (spare : List ℕ) → res
 restarts-well w run spare q = record { sound = r .sound (eq-eqb _ 0 q); full = sym (r .gives (eq-eqb _ 0 q) .capacity) }
   where
     r : Reads (restartOf (w .disk ++ spare) (length (w .disk)))
-    r = restart-reads (w .disk) spare (stored-rest w (inv refines run) .0) (stored-rest w (inv refines run) .1)
+    r = restart-reads (w .disk) spare (stored-rest w (always refines run) .0) (stored-rest w (always refines run) .1)

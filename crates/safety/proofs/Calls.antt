@@ -1,17 +1,17 @@
--- The events that name a transaction: what Begin, Enlist, Commit, Rollback and Ask are to it.
+-- Begin, Enlist, Commit, Rollback and Ask: the transaction that they name stands at one place, so that what they do there shows in its view alone, and is one of
+-- its moves.
 use Prim.Native.Nat.{ℕ}
 use native.Mathlib.Omega.{arith}
 use mathlib.Core.Path.{_≡_, refl, sym, _∙_, ap}
 use mathlib.Core.Logic.{_⊎_, inl, inr}
 use mathlib.Core.Bool.{Bool, true, false, cond, _&&_}
-use mathlib.Core.List.{List, [], _∷_, _++_, map, append-nil}
-use lib.ListN.{take}
+use mathlib.Core.List.{List, [], _∷_, map}
 use lib.Dec.{eqb}
 use borrow.Author.Tests.{eqb-true, eqb-false, ne-eqb}
 use Rattle.lists.specs.Members.{_∈_, Some}
 use Rattle.lists.specs.Lists.{any, filter, firstOr}
 use Rattle.lists.specs.Places.{placeOf, putLowest}
-use Rattle.lists.proofs.Tests.{by-test, by-either, no-clash, is-false, true-or, first-passes, first-none, each-nothing}
+use Rattle.lists.proofs.Tests.{by-test, by-either, no-clash, is-false, true-or, first-passes, first-none}
 use Rattle.lists.proofs.Places.{place-first, put-is, put-there, put-keeps, filter-put}
 use Rattle.rules.specs.declared.Transaction.{Transaction}
 use Rattle.rules.specs.declared.Enlistment.{Enlistment}
@@ -31,26 +31,22 @@ use Rattle.rules.specs.EnlistmentState as enlistment
 use Rattle.rules.specs.Identifiers.{Id}
 use Rattle.rules.specs.Table.{noTransaction, noEnlistment, isLive, isFree, isNamed, placeNamed, transactionAt, stateAt, isVacant, heldBy, held, isPhaseZero, isIn, inState, withTransactions, withEnlistments, changeHeld, changeTransaction, goTo}
 use Rattle.rules.specs.Sound.{Sound, Durable}
-use Rattle.rules.specs.Log.{allBytes}
 use Rattle.rules.specs.Signals.{signal, toEach, Committed}
 use Rattle.rules.specs.Events.{quietly, saying, abortOf, beginOf, kindOf, zeroAtOnce, newEnlistment, enlistOf, zeroedOf, commitOf, isUndone, isOver, toldAgain, askOf}
 use Rattle.rules.proofs.Identifiers.{same-refl}
-use Rattle.rules.proofs.Records.{Valid}
 use Rattle.rules.proofs.Frames.{Keeps, of-held, in-held, held-came, held-own, held-transaction, named-is, named-other, named-found, none-absent, Stands, Absent, at-own, at-other, place-kept}
 use Rattle.safety.specs.World.{Note, told, messageOf}
 use Rattle.safety.specs.Host.{Prepares, MayAsk}
 use Rattle.safety.specs.Demand3.{Votes}
 use Rattle.safety.proofs.Alone as alone
 use Rattle.safety.proofs.Alone.{Story, early, Waits, Unasked}
-use Rattle.safety.proofs.Move.{d-early, d-aborting, g-aborting, Move, stay, begin, gather, abort, told-on, answer-out}
+use Rattle.safety.proofs.Move.{nothing-calm, from-early, from-aborting, to-aborting, Move, stay, begin, gather, abort, told-on, answer-out}
 use Rattle.safety.proofs.Top.{Agrees}
-use Rattle.safety.proofs.Story.{story}
 use Rattle.safety.proofs.View.{viewOf, look, view-stands, view-absent, view-same, view-goes, goes-other, view-changes, view-held-other, state-none}
 use Rattle.safety.proofs.Given.{stands-sound, owner-held}
-use Rattle.safety.proofs.Fitting.{judged-nothing}
 use Rattle.safety.proofs.Messages.{notCommitted, notAborted, Only, only-nothing, only-one, only-each, Addressed, Owned, addressed-nothing, addressed-one, addressed-neutral, none-committed, none-aborted, quiet}
-use Rattle.safety.proofs.Own.{by-cases, Own, unlogged, used-goes, own-abort, own-start}
-use Rattle.safety.proofs.Reactions.{nothing-calm, untouched}
+use Rattle.safety.proofs.Own.{by-cases, Own, unwritten, unlogged, used-goes, own-abort, own-start}
+use Rattle.safety.proofs.Reactions.{untouched}
 
 -- a change of the transaction at p is none of one that stands elsewhere
 view-transaction-other : (u : Id) (p : ℕ) (f : Transaction → Transaction) (tb : Table) → isNamed u (transactionAt p tb) ≡ false → isNamed u (f (transactionAt p tb)) ≡ false → viewOf u (changeTransaction p f tb) ≡ viewOf u tb
@@ -76,10 +72,6 @@ module _ (tb : Table) (log : List ℕ) (s : Sound tb) (x : TxId) (y : RmId) wher
   view-here : (k : ℕ) → stateAt p tb ≡ k → viewOf t tb ≡ look k hs
   unfolding viewOf
   view-here k q = ap (λ k. look k hs) q
-
-  nothing-written : take (tb .used) log ≡ take (tb .used) log ++ allBytes []
-  unfolding allBytes
-  nothing-written = sym (append-nil (take (tb .used) log))
 
   -- ── Begin ─────────────────────────────────────────────────────────────────────────────────────────────────────
 
@@ -124,26 +116,18 @@ module _ (tb : Table) (log : List ℕ) (s : Sound tb) (x : TxId) (y : RmId) wher
     begun-view = view-stands t q begun at ∙ ap (λ (w : Transaction). look (w .state) (held q begun)) stands-at
 
     own-begun : Own tb (event act.Begin) log t (quietly begun log)
-    unfolding story told
-    own-begun = record {
-      records = [];
-      valid = each-nothing Valid;
-      bytes = rw used-begun nothing-written;
-      other-story = λ u d k. refl;
-      other-view = begun-other;
-      judged = judged-nothing tb log (begun .used) used-begun;
-      addressed = addressed-nothing tb (event act.Begin);
-      move = λ h made l a. rw (view-absent t tb absent, begun-view) (begin refl made refl (quiet t tb (event act.Begin) [] (only-nothing notCommitted) (only-nothing notAborted)));
-    }
+    unfolding told
+    own-begun = unwritten tb (event act.Begin) log t begun [] (addressed-nothing tb (event act.Begin)) used-begun begun-other
+        (λ h made l a. rw (view-absent t tb absent, begun-view) (begin refl made refl (quiet t tb (event act.Begin) [] (only-nothing notCommitted) (only-nothing notAborted))))
 
     pub own-begin : Own tb (event act.Begin) log t (beginOf t tb log)
     own-begin = rw begin-is own-begun
 
   -- ── Commit, Rollback ──────────────────────────────────────────────────────────────────────────────────────────
 
-  module _ (nz : p ≡ 0 → ⊥) where
+  module _ (live : p ≡ 0 → ⊥) where
     at-p : Stands t p tb
-    at-p = stands-sound tb s t p (named-found t tb nz)
+    at-p = stands-sound tb s t p (named-found t tb live)
 
     zeroed-kept : (P : Enlistment → Type 0) → ((e : Enlistment) → P e → P (inState enlistment.zero e)) → (e : Enlistment) → P e → P (zeroedOf e) × (zeroedOf e .holder ≡ e .holder)
     zeroed-kept P f e q = by-cases (λ (w : Enlistment). P w × (w .holder ≡ e .holder)) (isPhaseZero e) (inState enlistment.zero e) e (λ _. (f e q, refl)) (λ _. (q, refl))
@@ -153,36 +137,36 @@ module _ (tb : Table) (log : List ℕ) (s : Sound tb) (x : TxId) (y : RmId) wher
 
     pub own-commit : stateAt p tb ≡ transaction.active → Own tb (event act.Commit) log t (commitOf p tb log)
     unfolding commitOf told
-    own-commit st = by-cases (Own tb ev log t) (any isPhaseZero hs) _ _
-        (λ _. unlogged tb ev log t p tb (untouched tb s t p at-p) refl tb₂ ss (addressed-neutral tb ev ss (only-each notCommitted name.Zero zs refl) (only-each notAborted name.Zero zs refl)) (used-goes p transaction.phaseZero zeroedOf tb) (λ u d. goes-other t p tb at-p transaction.phaseZero zeroedOf u zeroed-keeps d)
-        (λ h made l a. rw (view-here transaction.active st, view-goes t p tb at-p transaction.phaseZero zeroedOf (λ q. omega arith))
-        (gather refl (nothing-calm t .not-prepared) (quiet t tb ev ss (only-each notCommitted name.Zero zs refl) (only-each notAborted name.Zero zs refl))
+    own-commit state = by-cases (Own tb this-event log t) (any isPhaseZero hs) _ _
+        (λ _. unlogged tb this-event log t p tb (untouched tb s t p at-p) refl tb₂ ss (addressed-neutral tb this-event ss (only-each notCommitted name.Zero phase-zeros refl) (only-each notAborted name.Zero phase-zeros refl)) (used-goes p transaction.phaseZero zeroedOf tb) (λ u d. goes-other t p tb at-p transaction.phaseZero zeroedOf u zeroed-keeps d)
+        (λ h made l a. rw (view-here transaction.active state, view-goes t p tb at-p transaction.phaseZero zeroedOf (λ q. omega arith))
+        (gather refl (nothing-calm t .not-prepared) (quiet t tb this-event ss (only-each notCommitted name.Zero phase-zeros refl) (only-each notAborted name.Zero phase-zeros refl))
         (λ m w. held-own (Unasked m) (Unasked m) p zeroedOf tb (λ e _ q. zeroed-kept (Unasked m) (λ e q. q) e q) w)
         (λ m r k q w. absurd (nothing-calm t .not-enlisted m r k q)))))
-        (λ _. own-start tb ev log t p tb (untouched tb s t p at-p) refl hs (view-here transaction.active st) (nothing-calm t) (λ m w. w) (λ c. omega (arith, c, st)))
+        (λ _. own-start tb this-event log t p tb (untouched tb s t p at-p) refl hs (view-here transaction.active state) (nothing-calm t) (λ m w. w) (λ c. omega (arith, c, state)))
       where
-        ev : Event
-        ev = event act.Commit
+        this-event : Event
+        this-event = event act.Commit
 
         tb₂ : Table
         tb₂ = goTo p transaction.phaseZero (changeHeld p zeroedOf tb)
 
-        zs : List Enlistment
-        zs = filter isPhaseZero hs
+        phase-zeros : List Enlistment
+        phase-zeros = filter isPhaseZero hs
 
         ss : List Signal
-        ss = toEach name.Zero zs
+        ss = toEach name.Zero phase-zeros
 
     is-early : (stateAt p tb ≡ transaction.active) ⊎ (stateAt p tb ≡ transaction.phaseZero) → viewOf t tb ≡ early hs
     is-early (inl q) = view-here transaction.active q
     is-early (inr q) = view-here transaction.phaseZero q
 
     pub own-rollback : (stateAt p tb ≡ transaction.active) ⊎ (stateAt p tb ≡ transaction.phaseZero) → Own tb (event act.Rollback) log t (abortOf p tb log)
-    own-rollback st = own-abort tb (event act.Rollback) log t p tb (untouched tb s t p at-p) refl (rw (is-early st) d-early)
+    own-rollback state = own-abort tb (event act.Rollback) log t p tb (untouched tb s t p at-p) refl (rw (is-early state) from-early)
 
     -- ── Enlist ──────────────────────────────────────────────────────────────────────────────────────────────────
 
-    module _ (n : ℕ) (k : Kind) (m : Mark) (st : (stateAt p tb ≡ transaction.active) ⊎ (stateAt p tb ≡ transaction.phaseZero)) (room : any isVacant (tb .enlistments) ≡ true) where
+    module _ (n : ℕ) (k : Kind) (m : Mark) (state : (stateAt p tb ≡ transaction.active) ⊎ (stateAt p tb ≡ transaction.phaseZero)) (room : any isVacant (tb .enlistments) ≡ true) where
       joined : Enlistment
       joined = newEnlistment p (stateAt p tb) n r k m
 
@@ -207,18 +191,18 @@ module _ (tb : Table) (log : List ℕ) (s : Sound tb) (x : TxId) (y : RmId) wher
 
       enlisted-view : viewOf t enlisted ≡ early (held p enlisted)
       unfolding viewOf enlisted
-      enlisted-view = by-either (λ q. rw q refl) (λ q. rw q refl) st
+      enlisted-view = by-either (λ q. rw q refl) (λ q. rw q refl) state
 
       enlisted-keeps : (P : Enlistment → Type 0) → Some P hs → Some P (held p enlisted)
       unfolding enlisted
-      enlisted-keeps P h = record { it = h .it; holds = h .holds; there = in-held p enlisted (put-keeps isVacant joined (tb .enlistments) (of-held p tb (h .there) .0) (ne-eqb (h .it .holder) 0 (λ z. nz (sym (of-held p tb (h .there) .1) ∙ z)))) (of-held p tb (h .there) .1) }
+      enlisted-keeps P h = record { it = h .it; holds = h .holds; there = in-held p enlisted (put-keeps isVacant joined (tb .enlistments) (of-held p tb (h .there) .0) (ne-eqb (h .it .holder) 0 (λ z. live (sym (of-held p tb (h .there) .1) ∙ z)))) (of-held p tb (h .there) .1) }
 
       enlisted-new : joined ∈ held p enlisted
       unfolding enlisted
       enlisted-new = in-held p enlisted (put-there isVacant joined (tb .enlistments) room) (joined-is .0)
 
-      abbrev pub ev : Event
-      ev = event (act.Enlist n k m)
+      abbrev pub this-event : Event
+      this-event = event (act.Enlist n k m)
 
       abbrev ss : List Signal
       ss = cond (zeroAtOnce k (stateAt p tb)) (signal name.Zero n ∷ []) []
@@ -242,20 +226,12 @@ module _ (tb : Table) (log : List ℕ) (s : Sound tb) (x : TxId) (y : RmId) wher
       unfolding enlisted
       used-enlisted = refl
 
-      own-enlisted : Own tb ev log t (saying ss (quietly enlisted log))
-      unfolding story told
-      own-enlisted = record {
-        records = [];
-        valid = each-nothing Valid;
-        bytes = rw used-enlisted nothing-written;
-        other-story = λ u d q. refl;
-        other-view = enlisted-other;
-        judged = judged-nothing tb log (enlisted .used) used-enlisted;
-        addressed = addressed-neutral tb ev ss (only-zero notCommitted refl) (only-zero notAborted refl);
-        move = λ h made l a. rw (is-early st, enlisted-view) (gather refl not-prepared (quiet t tb ev ss (only-zero notCommitted refl) (only-zero notAborted refl)) (λ j w. enlisted-keeps (Unasked j) w) is-new);
-      }
+      own-enlisted : Own tb this-event log t (saying ss (quietly enlisted log))
+      unfolding told
+      own-enlisted = unwritten tb this-event log t enlisted ss (addressed-neutral tb this-event ss (only-zero notCommitted refl) (only-zero notAborted refl)) used-enlisted enlisted-other
+          (λ h made l a. rw (is-early state, enlisted-view) (gather refl not-prepared (quiet t tb this-event ss (only-zero notCommitted refl) (only-zero notAborted refl)) (λ j w. enlisted-keeps (Unasked j) w) is-new))
 
-      pub own-enlist : Own tb ev log t (enlistOf p n r k m tb log)
+      pub own-enlist : Own tb this-event log t (enlistOf p n r k m tb log)
       own-enlist = rw enlist-is own-enlisted
 
   -- ── Ask ───────────────────────────────────────────────────────────────────────────────────────────────────────
@@ -266,8 +242,8 @@ module _ (tb : Table) (log : List ℕ) (s : Sound tb) (x : TxId) (y : RmId) wher
   only-answered : (ss : List Signal) → Addressed tb ask ss
       → ((h : List Note) → MayAsk t r h → (l : Story) → Agrees (viewOf t tb) l → Move t h Note.nothing (map (messageOf tb ask) ss) l l (viewOf t tb) (viewOf t tb))
       → Own tb ask log t (saying ss (quietly tb log))
-  unfolding story told
-  only-answered ss ad mv = record { records = []; valid = each-nothing Valid; bytes = nothing-written; other-story = λ u d q. refl; other-view = λ u d. refl; judged = judged-nothing tb log (tb .used) refl; addressed = ad; move = mv }
+  unfolding told
+  only-answered ss addressed moves = unwritten tb ask log t tb ss addressed refl (λ u d. refl) moves
 
   again-kept : (e : Enlistment) → (toldAgain r e .holder ≡ e .holder) × (toldAgain r e .kind ≡ e .kind)
   again-kept e = by-cases (λ (w : Enlistment). (w .holder ≡ e .holder) × (w .kind ≡ e .kind)) (isUndone r e && isIn enlistment.failedToNotify e) (inState enlistment.toldCommit e) e (λ _. (refl, refl)) (λ _. (refl, refl))
@@ -282,8 +258,8 @@ module _ (tb : Table) (log : List ℕ) (s : Sound tb) (x : TxId) (y : RmId) wher
   answered = firstOr noEnlistment (isUndone r) hs .number
 
   answered-owned : (p ≡ 0 → ⊥) → Owned tb t answered
-  answered-owned nz = by-test (any (isUndone r) hs)
-      (λ q. inr (owner-held tb s t p (at-p nz) (first-passes noEnlistment (isUndone r) hs q .0) .1))
+  answered-owned live = by-test (any (isUndone r) hs)
+      (λ q. inr (owner-held tb s t p (at-p live) (first-passes noEnlistment (isUndone r) hs q .0) .1))
       (λ q. inl (ap (λ (e : Enlistment). e .number) (first-none noEnlistment (isUndone r) hs q)))
 
   same-used : changeHeld p (toldAgain r) tb .used ≡ tb .used
@@ -292,19 +268,19 @@ module _ (tb : Table) (log : List ℕ) (s : Sound tb) (x : TxId) (y : RmId) wher
 
   ask-committing : stateAt p tb ≡ transaction.committing → (p ≡ 0 → ⊥) → Own tb ask log t (saying (signal name.AnswerCommitted answered ∷ []) (quietly (changeHeld p (toldAgain r) tb) log))
   unfolding told
-  ask-committing st nz = unlogged tb ask log t p tb (untouched tb s t p (at-p nz)) refl (changeHeld p (toldAgain r) tb) (signal name.AnswerCommitted answered ∷ []) (addressed-one tb ask name.AnswerCommitted answered (answered-owned nz)) same-used
-      (λ u d. view-held-other u p (toldAgain r) tb (λ e. inl (again-kept e .0)) (named-other t u (transactionAt p tb) (at-p nz .here) d))
-      (λ h made l a. rw (view-here transaction.committing st, view-changes t p tb (at-p nz) (toldAgain r) ∙ ap (λ k. look k (held p (changeHeld p (toldAgain r) tb))) st)
+  ask-committing state live = unlogged tb ask log t p tb (untouched tb s t p (at-p live)) refl (changeHeld p (toldAgain r) tb) (signal name.AnswerCommitted answered ∷ []) (addressed-one tb ask name.AnswerCommitted answered (answered-owned live)) same-used
+      (λ u d. view-held-other u p (toldAgain r) tb (λ e. inl (again-kept e .0)) (named-other t u (transactionAt p tb) (at-p live .here) d))
+      (λ h made l a. rw (view-here transaction.committing state, view-changes t p tb (at-p live) (toldAgain r) ∙ ap (λ k. look k (held p (changeHeld p (toldAgain r) tb))) state)
       (told-on refl (nothing-calm t) (none-aborted t tb ask (signal name.AnswerCommitted answered ∷ []) (only-one notAborted name.AnswerCommitted answered refl))
       (λ q w. inl (held-own (Waits q) (Waits q) p (toldAgain r) tb (λ e _ v. (again-waits q e v, again-kept e .0)) w))
       (λ w. held-own Durable Durable p (toldAgain r) tb (λ e _ v. (again-kept e .1 ∙ v, again-kept e .0)) w)
-      (λ nd e m d. let c : Some (λ w. e ≡ toldAgain r w) hs = held-came p (toldAgain r) tb m in nd (c .it) (c .there) (sym (again-kept (c .it) .1) ∙ sym (ap (λ (w : Enlistment). w .kind) (c .holds)) ∙ d))
+      (λ no-durable e m d. let c : Some (λ w. e ≡ toldAgain r w) hs = held-came p (toldAgain r) tb m in no-durable (c .it) (c .there) (sym (again-kept (c .it) .1) ∙ sym (ap (λ (w : Enlistment). w .kind) (c .holds)) ∙ d))
       (λ n w. held-own (λ e. e .number ≡ n) (λ e. e .number ≡ n) p (toldAgain r) tb (λ e _ q. (again-number e ∙ q, again-kept e .0)) w)))
 
   ask-over : (stateAt p tb ≡ 0) ⊎ (stateAt p tb ≡ transaction.aborting) → Own tb ask log t (saying (signal name.AnswerAborted 0 ∷ []) (quietly tb log))
   ask-over w = only-answered (signal name.AnswerAborted 0 ∷ []) (addressed-one tb ask name.AnswerAborted 0 (inl refl)) (λ h may l a. by-either
       (λ q. rw (view-here 0 q) (answer-out r refl may (nothing-calm t) silent))
-      (λ q. rw (view-here transaction.aborting q) (abort refl d-aborting g-aborting silent)) w)
+      (λ q. rw (view-here transaction.aborting q) (abort refl from-aborting to-aborting silent)) w)
     where
       silent : alone.New t Committed (map (messageOf tb ask) (signal name.AnswerAborted 0 ∷ [])) → ⊥
       silent = none-committed t tb ask (signal name.AnswerAborted 0 ∷ []) (only-one notCommitted name.AnswerAborted 0 refl)

@@ -1,6 +1,6 @@
--- Storing, leaving and restarting keep what is always true of one transaction.
+-- A cut keeps what is always true of one transaction. The stored log tells less than the log, and storing adds to it; a message leaves with its log stored; and a
+-- restart goes back to what the stored log tells, in which whatever was said of the transaction stands.
 use Prim.Native.Nat.{ℕ}
-use native.Mathlib.Omega.{arith}
 use mathlib.Core.Path.{_≡_, refl}
 use mathlib.Core.Logic.{_⊎_, inl, inr, ⊎-elim}
 use mathlib.Core.List.{List, [], _∷_, List·Memᴰ·cases-cons, List·Memᴰ·not-nil}
@@ -8,12 +8,11 @@ use Rattle.lists.specs.Members.{_∈_, Some}
 use Rattle.rules.specs.declared.Enlistment.{Enlistment}
 use Rattle.rules.specs.declared.Name.{Name}
 use Rattle.rules.specs.Identifiers.{Id}
-use Rattle.rules.specs.Log.{Entry}
 use Rattle.rules.specs.Sound.{Durable}
 use Rattle.safety.specs.World.{Note, Message, Issued}
 use Rattle.safety.specs.Host.{MayAsk}
 use Rattle.rules.specs.Signals.{Committed, Aborted}
-use Rattle.safety.proofs.Alone.{Story, none, open-with, closed, bad, Below, below-refl, Logged, logged-up, fine-down, View, out, early, voting, single, committing, aborting, Waits, managersOf, Entered, NoAsk, AsksIn, Any, Base, Undecided, Shape}
+use Rattle.safety.proofs.Alone.{Story, none, open-with, closed, bad, Below, below-refl, Logged, logged-up, fine-down, none-not-open, closed-not-open, View, out, early, voting, single, committing, aborting, Waits, managersOf, Entered, NoAsk, AsksIn, Any, Base, Undecided, Shape}
 
 -- What a restart makes of a story
 abbrev pub Restored : Story → View → Type 0
@@ -22,11 +21,11 @@ Restored (open-with rs) v = (es : List Enlistment) × (v ≡ committing es) × (
 Restored closed v = v ≡ out
 Restored bad v = Unit {0}
 
-module _ (t : Id) (S : List ℕ → Story) (l disk : Story) (h : List Note) (is : List Message) (wa se : List Issued) where
-  abbrev pub B : Type 0
-  B = Base t S l disk h wa se is
+module _ (t : Id) (storyOf : List ℕ → Story) (log disk : Story) (h : List Note) (issued : List Message) (waiting sent : List Issued) where
+  abbrev pub Before : Type 0
+  Before = Base t storyOf log disk h waiting sent issued
 
-  pub keep-store : B → (disk′ : Story) → Below disk disk′ → Below disk′ l → Base t S l disk′ h wa se is
+  pub keep-store : Before → (disk′ : Story) → Below disk disk′ → Below disk′ log → Base t storyOf log disk′ h waiting sent issued
   keep-store b disk′ p q = record {
     fine = b .fine;
     below = q;
@@ -45,15 +44,15 @@ module _ (t : Id) (S : List ℕ → Story) (l disk : Story) (h : List Note) (is 
   }
 
   -- what has left was waiting
-  left : (P : Name → Type 0) (i : Issued) → i ∈ wa → Any t P wa (i ∷ se) → Any t P wa se
+  left : (P : Name → Type 0) (i : Issued) → i ∈ waiting → Any t P waiting (i ∷ sent) → Any t P waiting sent
   left P i m (inl s) = inl s
   left P i m (inr s) = go (List·Memᴰ·cases-cons (s .there))
     where
-      go : (s .it ≡ i) ⊎ (s .it ∈ se) → Any t P wa se
+      go : (s .it ≡ i) ⊎ (s .it ∈ sent) → Any t P waiting sent
       go (inl e) = inl (record { it = i; there = m; holds = rw e at (s .holds) })
       go (inr p) = inr (record { it = s .it; there = p; holds = s .holds })
 
-  pub keep-leave : B → (i : Issued) → i ∈ wa → Below (S (i .image)) disk → Base t S l disk h wa (i ∷ se) is
+  pub keep-leave : Before → (i : Issued) → i ∈ waiting → Below (storyOf (i .image)) disk → Base t storyOf log disk h waiting (i ∷ sent) issued
   keep-leave b i m p = record {
     fine = b .fine;
     below = b .below;
@@ -69,14 +68,14 @@ module _ (t : Id) (S : List ℕ → Story) (l disk : Story) (h : List Note) (is 
     asks = b .asks;
     waits = b .waits;
     leaves = λ j q a c. ⊎-elim
-        (λ e. ⊎-elim inl (λ g. inr (logged-up (S (i .image)) disk p g)) (b .waits i m (rw e at a) (rw e at c)))
+        (λ e. ⊎-elim inl (λ g. inr (logged-up (storyOf (i .image)) disk p g)) (b .waits i m (rw e at a) (rw e at c)))
         (λ q′. b .leaves j q′ a c) (List·Memᴰ·cases-cons q);
   }
 
-  undecided-leave : (i : Issued) → i ∈ wa → Undecided t l h wa se → Undecided t l h wa (i ∷ se)
+  undecided-leave : (i : Issued) → i ∈ waiting → Undecided t log h waiting sent → Undecided t log h waiting (i ∷ sent)
   undecided-leave i m u = record { log-none = u .log-none; begun = u .begun; no-committed = λ c. u .no-committed (left Committed i m c); no-aborted = λ c. u .no-aborted (left Aborted i m c) }
 
-  pub shape-leave : (v : View) → Shape t v l h wa se is → (i : Issued) → i ∈ wa → Shape t v l h wa (i ∷ se) is
+  pub shape-leave : (v : View) → Shape t v log h waiting sent issued → (i : Issued) → i ∈ waiting → Shape t v log h waiting (i ∷ sent) issued
   shape-leave out s i m = record { not-open = s .not-open; no-ask = λ c. s .no-ask (left Committed i m c) }
   shape-leave (early es) s i m = record { undecided = undecided-leave i m (s .undecided); no-ask = s .no-ask; held = s .held }
   shape-leave (voting es) s i m = record { undecided = undecided-leave i m (s .undecided); held = s .held; hopes = s .hopes }
@@ -92,7 +91,7 @@ module _ (t : Id) (S : List ℕ → Story) (l disk : Story) (h : List Note) (is 
 
   -- ── restart: the log is what the disk tells, and nothing waits ────────────────────────────────────────────────
 
-  only-sent : (P : Name → Type 0) → Any t P [] se → Any t P wa se
+  only-sent : (P : Name → Type 0) → Any t P [] sent → Any t P waiting sent
   only-sent P (inl s) = absurd (List·Memᴰ·not-nil (s .there))
   only-sent P (inr s) = inr s
 
@@ -111,9 +110,9 @@ module _ (t : Id) (S : List ℕ → Story) (l disk : Story) (h : List Note) (is 
   asks-down bad closed p q = elim p [ ]
   asks-down bad bad p q = q
 
-  pub keep-restart : B → Base t S disk disk h [] se is
+  pub keep-restart : Before → Base t storyOf disk disk h [] sent issued
   keep-restart b = record {
-    fine = fine-down disk l (b .below) (b .fine);
+    fine = fine-down disk log (b .below) (b .fine);
     below = below-refl disk;
     begun-log = λ g. b .begun-log (up g);
     begun-committed = λ c. b .begun-committed (only-sent Committed c);
@@ -124,38 +123,32 @@ module _ (t : Id) (S : List ℕ → Story) (l disk : Story) (h : List Note) (is 
     good-committed = λ c. b .good-committed (only-sent Committed c);
     good-log = λ g. b .good-log (up g);
     kept = λ g a. b .kept (up g) (only-sent Aborted a);
-    asks = asks-down disk l (b .below) (b .asks);
+    asks = asks-down disk log (b .below) (b .asks);
     waits = λ i m a c. absurd (List·Memᴰ·not-nil m);
     leaves = b .leaves;
   }
     where
-      up : Logged disk → Logged l
-      up = logged-up disk l (b .below)
+      up : Logged disk → Logged log
+      up = logged-up disk log (b .below)
 
-  none-not-open : {s : Story} → s ≡ none → (rs : List Entry) → s ≡ open-with rs → ⊥
-  none-not-open e rs p = let z : _≡_ {A = ℕ} 0 1 = cc in omega arith
-
-  closed-not-open : {s : Story} → s ≡ closed → (rs : List Entry) → s ≡ open-with rs → ⊥
-  closed-not-open e rs p = let z : _≡_ {A = ℕ} 0 1 = cc in omega arith
-
-  pub shape-restart : B → (v : View) → Restored disk v → Shape t v disk h [] se is
+  pub shape-restart : Before → (v : View) → Restored disk v → Shape t v disk h [] sent issued
   shape-restart b v = go disk refl
     where
-      sent-com : Any t Committed [] se → NoAsk t h ⊎ Logged disk
-      sent-com (inl s) = absurd (List·Memᴰ·not-nil (s .there))
-      sent-com (inr s) = b .leaves (s .it) (s .there) (s .holds .0) (s .holds .1)
+      sent-committed : Any t Committed [] sent → NoAsk t h ⊎ Logged disk
+      sent-committed (inl s) = absurd (List·Memᴰ·not-nil (s .there))
+      sent-committed (inr s) = b .leaves (s .it) (s .there) (s .holds .0) (s .holds .1)
 
-      go : (d : Story) → disk ≡ d → Restored d v → Shape t v disk h [] se is
-      go none e r = rw r (record { not-open = none-not-open e; no-ask = λ c. ⊎-elim (λ y. y) (λ g. absurd (rw e at g)) (sent-com c) })
-      go (open-with rs) e (es, ev, w, d, n) = rw ev (record {
-        begun = b .begun-log (logged-up disk l (b .below) (rw e tt));
-        no-aborted = λ a. b .kept (logged-up disk l (b .below) (rw e tt)) (only-sent Aborted a);
-        good = b .good-log (logged-up disk l (b .below) (rw e tt));
+      go : (d : Story) → disk ≡ d → Restored d v → Shape t v disk h [] sent issued
+      go none e r = rw r (record { not-open = none-not-open e; no-ask = λ c. ⊎-elim (λ y. y) (λ g. absurd (rw e at g)) (sent-committed c) })
+      go (open-with rs) e (es, shown, w, d, n) = rw shown (record {
+        begun = b .begun-log (logged-up disk log (b .below) (rw e tt));
+        no-aborted = λ a. b .kept (logged-up disk log (b .below) (rw e tt)) (only-sent Aborted a);
+        good = b .good-log (logged-up disk log (b .below) (rw e tt));
         wait = λ r m. w r (asked-in r m);
         record-or-none = inl (rs, e, d, n);
       })
         where
           asked-in : (r : Id) → MayAsk t r h → r ∈ managersOf rs
-          asked-in = rw e at (asks-down disk l (b .below) (b .asks))
-      go closed e r = rw r (record { not-open = closed-not-open e; no-ask = λ c. rw e at (asks-down disk l (b .below) (b .asks)) })
-      go bad e r = absurd (fine-down disk l (b .below) (b .fine) e)
+          asked-in = rw e at (asks-down disk log (b .below) (b .asks))
+      go closed e r = rw r (record { not-open = closed-not-open e; no-ask = λ c. rw e at (asks-down disk log (b .below) (b .asks)) })
+      go bad e r = absurd (fine-down disk log (b .below) (b .fine) e)

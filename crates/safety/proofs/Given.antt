@@ -52,7 +52,7 @@ module _ (tb : Table) (s : Sound tb) where
   -- numbers differ, so that the enlistment with a number is the one
   pub numbered-is : (n : ℕ) → (n ≡ 0 → ⊥) → {x : Enlistment} → x ∈ tb .enlistments → x .number ≡ n → numbered n tb ≡ x
   unfolding numbered
-  numbered-is n nz {x} m e = apart-one (λ a b r. sym r) (s .numbers-differ) (in-held-ones (found .0) (numbered-held (found .0) (λ z. nz (sym is-n ∙ z)))) (in-held-ones m (numbered-held m (λ z. nz (sym e ∙ z)))) (is-n ∙ sym e)
+  numbered-is n nonzero {x} m e = apart-one (λ a b r. sym r) (s .numbers-differ) (in-held-ones (found .0) (numbered-held (found .0) (λ z. nonzero (sym is-n ∙ z)))) (in-held-ones m (numbered-held m (λ z. nonzero (sym e ∙ z)))) (is-n ∙ sym e)
     where
       found : (numbered n tb ∈ tb .enlistments) × (isNumbered n (numbered n tb) ≡ true)
       found = first-passes noEnlistment (isNumbered n) (tb .enlistments) (some-any (isNumbered n) (tb .enlistments) (record { it = x; there = m; holds = eq-eqb (x .number) n e }))
@@ -62,13 +62,13 @@ module _ (tb : Table) (s : Sound tb) where
 
   -- what a live transaction holds is its own
   pub owner-held : (t : Id) (p : ℕ) → Stands t p tb → {x : Enlistment} → x ∈ held p tb → (x .number ≡ 0 → ⊥) × (ownerOf (x .number) tb ≡ t)
-  owner-held t p at {x} m = (nz, ap (λ (e : Enlistment). idAt (e .holder) tb) (numbered-is (x .number) nz (of-held p tb m .0) refl) ∙ ap (λ q. idAt q tb) (of-held p tb m .1) ∙ named-is t (transactionAt p tb) (at .here) .1)
+  owner-held t p at {x} m = (nonzero, ap (λ (e : Enlistment). idAt (e .holder) tb) (numbered-is (x .number) nonzero (of-held p tb m .0) refl) ∙ ap (λ q. idAt q tb) (of-held p tb m .1) ∙ named-is t (transactionAt p tb) (at .here) .1)
     where
       is-held : Held x
       is-held z = not-zero (named-place t p tb (at .here)) (sym (of-held p tb m .1) ∙ z)
 
-      nz : x .number ≡ 0 → ⊥
-      nz = s .numbers x (of-held p tb m .0) is-held .0
+      nonzero : x .number ≡ 0 → ⊥
+      nonzero = s .numbers x (of-held p tb m .0) is-held .0
 
 -- ── by the state of an enlistment ───────────────────────────────────────────────────────────────────────────────
 
@@ -100,12 +100,12 @@ pub record Named (tb : Table) (n : ℕ) : Type 0 where
 
 pub named-sound : (tb : Table) → Sound tb → (n : ℕ) → (n ≡ 0 → ⊥) → isNumberHeld n tb ≡ true → Named tb n
 unfolding numbered
-named-sound tb s n nz h = record {
+named-sound tb s n nonzero h = record {
   number = is-n;
   stands = at;
   line = row (s .states (numbered n tb .holder) live) mine;
   mine = mine;
-  only = λ m e. numbered-is tb s n nz (of-held (numbered n tb .holder) tb m .0) e;
+  only = λ m e. numbered-is tb s n nonzero (of-held (numbered n tb .holder) tb m .0) e;
 }
   where
     found : (numbered n tb ∈ tb .enlistments) × (isNumbered n (numbered n tb) ≡ true)
@@ -115,7 +115,7 @@ named-sound tb s n nz h = record {
     is-n = eqb-true (numbered n tb .number) n (found .1)
 
     is-held : Held (numbered n tb)
-    is-held = numbered-held tb s (found .0) (λ z. nz (sym is-n ∙ z))
+    is-held = numbered-held tb s (found .0) (λ z. nonzero (sym is-n ∙ z))
 
     mine : numbered n tb ∈ held (numbered n tb .holder) tb
     mine = in-held (numbered n tb .holder) tb (found .0) refl

@@ -24,6 +24,7 @@ pub mod Restarts
 -- Demand 3
 pub mod Safety
 -- It is not empty, and each premise is needed
+pub mod Played
 pub mod Samples
 pub mod Pinned
 -- Beyond the demand: a decision is remembered; no bricking

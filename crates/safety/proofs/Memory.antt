@@ -23,7 +23,7 @@ use Rattle.safety.specs.Host.{MayAsk}
 use Rattle.safety.specs.Demand3.{About}
 use Rattle.safety.specs.Beyond.{Remembers, Remembered, AnsweredCommitted, ReconnectAnswered}
 use Rattle.safety.proofs.Alone.{Story, View, out, early, voting, single, committing, aborting, Waits, Shape}
-use Rattle.safety.proofs.Top.{Inv, inv}
+use Rattle.safety.proofs.Top.{Always, always}
 use Rattle.safety.proofs.Story.{storyOf}
 use Rattle.safety.proofs.View.{viewOf, looks-committing}
 use Rattle.safety.proofs.Steps.{step-needs-sound, zero-unsound}
@@ -52,9 +52,9 @@ remembers t r tb w = let p : (stateAt (placeNamed t tb) tb ≡ transaction.commi
 
 pub remembered : Remembered
 unfolding Remembered refines
-remembered w run used t r c m = go (inv refines run)
+remembered w run used t r c m = go (always refines run)
   where
-    go : Inv refines w → Remembers t r (w .table)
+    go : Always refines w → Remembers t r (w .table)
     go (inl a) = remembers t r (w .table) (must-be-told t r (storyOf t (usedPart (w .table) (w .log))) (w .notes) (w .waiting) (w .sent) (w .issued) c m (viewOf t (w .table)) (a .shape t))
     go (inr d) = absurd (used (d .none-used))
 
@@ -62,11 +62,11 @@ remembered w run used t r c m = go (inv refines run)
 
 answer-is : (p : ℕ) (r : Id) (tb : Table) (log : List ℕ) → stateAt p tb ≡ transaction.committing → (n : ℕ) × (askOf p r tb log .signals ≡ signal name.AnswerCommitted n ∷ [])
 unfolding askOf
-answer-is p r tb log st = rw st (_, refl)
+answer-is p r tb log state = rw state (_, refl)
 
 pub reconnect-answered : ReconnectAnswered
 unfolding ReconnectAnswered acted
-reconnect-answered tb e log is-ask st ok = rw (step-done tb e log (sym (step-refusal tb e log) ∙ ok), is-ask) (answer-is (placeNamed (e .tx .0) tb) (e .rm .0) tb log st)
+reconnect-answered tb e log is-ask state ok = rw (step-done tb e log (sym (step-refusal tb e log) ∙ ok), is-ask) (answer-is (placeNamed (e .tx .0) tb) (e .rm .0) tb log state)
 
 pub answered-committed : AnsweredCommitted
 unfolding AnsweredCommitted Remembered ReconnectAnswered

@@ -1,4 +1,5 @@
--- Messages: whom the signals of an event are about, and which of them are no verdict. Safety asks no more of them than their names.
+-- A signal goes to an enlistment that the event's own transaction holds, or to the application: so that it is about that transaction. Whether it is a verdict, its
+-- name says.
 use Prim.Native.Nat.{ℕ}
 use mathlib.Core.Path.{_≡_, refl, sym, _∙_, ap}
 use mathlib.Core.Logic.{_⊎_, inl, inr}
@@ -118,19 +119,18 @@ module _ (tb : Table) (e : Event) where
   addressed-both a b p q s m = by-either (p s) (q s) (List·Memᴰ·append-cases a m)
 
 module _ (t : Id) (tb : Table) (e : Event) (ss : List Signal) where
-  pub none-committed : Only notCommitted ss → New t Committed (map (messageOf tb e) ss) → ⊥
+  none-such : (P : Name → Type 0) (f : Name → Bool) → ((a : Name) → f a ≡ true → P a → ⊥) → Only f ss → New t P (map (messageOf tb e) ss) → ⊥
   unfolding messageOf
-  none-committed o m = go (of-map (messageOf tb e) ss (m .there))
+  none-such P f not-named o m = go (of-map (messageOf tb e) ss (m .there))
     where
       go : Some (λ s. messageOf tb e s ≡ m .it) ss → ⊥
-      go s = is-not-committed (s .it .name) (o (s .it) (s .there)) (rw (← s .holds) at (m .holds .1))
+      go s = not-named (s .it .name) (o (s .it) (s .there)) (rw (← s .holds) at (m .holds .1))
+
+  pub none-committed : Only notCommitted ss → New t Committed (map (messageOf tb e) ss) → ⊥
+  none-committed = none-such Committed notCommitted is-not-committed
 
   pub none-aborted : Only notAborted ss → New t Aborted (map (messageOf tb e) ss) → ⊥
-  unfolding messageOf
-  none-aborted o m = go (of-map (messageOf tb e) ss (m .there))
-    where
-      go : Some (λ s. messageOf tb e s ≡ m .it) ss → ⊥
-      go s = is-not-aborted (s .it .name) (o (s .it) (s .there)) (rw (← s .holds) at (m .holds .1))
+  none-aborted = none-such Aborted notAborted is-not-aborted
 
   pub quiet : Only notCommitted ss → Only notAborted ss → Quiet t (map (messageOf tb e) ss)
   quiet a b = record { no-committed = none-committed a; no-aborted = none-aborted b }
@@ -138,10 +138,10 @@ module _ (t : Id) (tb : Table) (e : Event) (ss : List Signal) where
   -- verdicts are about the event's transaction alone
   pub quiet-other : (t ≡ subjectOf tb e → ⊥) → Addressed tb e ss → Quiet t (map (messageOf tb e) ss)
   unfolding messageOf
-  quiet-other d ad = record { no-committed = λ m. committed m (of-map (messageOf tb e) ss (m .there)); no-aborted = λ m. aborted m (of-map (messageOf tb e) ss (m .there)) }
+  quiet-other d addressed = record { no-committed = λ m. committed m (of-map (messageOf tb e) ss (m .there)); no-aborted = λ m. aborted m (of-map (messageOf tb e) ss (m .there)) }
     where
       committed : (m : New t Committed (map (messageOf tb e) ss)) → Some (λ s. messageOf tb e s ≡ m .it) ss → ⊥
-      committed m s = by-either (λ w. d (sym (m .holds .0) ∙ sym (ap (λ (m : Message). m .about) (s .holds)) ∙ w)) (λ w. is-not-committed (s .it .name) (w .0) (rw (← s .holds) at (m .holds .1))) (ad (s .it) (s .there))
+      committed m s = by-either (λ w. d (sym (m .holds .0) ∙ sym (ap (λ (m : Message). m .about) (s .holds)) ∙ w)) (λ w. is-not-committed (s .it .name) (w .0) (rw (← s .holds) at (m .holds .1))) (addressed (s .it) (s .there))
 
       aborted : (m : New t Aborted (map (messageOf tb e) ss)) → Some (λ s. messageOf tb e s ≡ m .it) ss → ⊥
-      aborted m s = by-either (λ w. d (sym (m .holds .0) ∙ sym (ap (λ (m : Message). m .about) (s .holds)) ∙ w)) (λ w. is-not-aborted (s .it .name) (w .1) (rw (← s .holds) at (m .holds .1))) (ad (s .it) (s .there))
+      aborted m s = by-either (λ w. d (sym (m .holds .0) ∙ sym (ap (λ (m : Message). m .about) (s .holds)) ∙ w)) (λ w. is-not-aborted (s .it .name) (w .1) (rw (← s .holds) at (m .holds .1))) (addressed (s .it) (s .there))

@@ -1,31 +1,48 @@
--- The moves of one transaction, and that each keeps what is always true.
+-- Each move of one transaction keeps what is always true of it, since it asks for whatever it might break: commit is said once all have voted yes, and with the
+-- record in the log if anybody may ask; abort is said only where no commit was said or written.
 use Prim.Native.Nat.{ℕ}
 use native.Mathlib.Omega.{arith}
-use mathlib.Core.Path.{_≡_, refl, sym, _∙_}
+use mathlib.Core.Path.{_≡_, refl, sym, _∙_, ap}
 use mathlib.Core.Logic.{_⊎_, inl, inr, ⊎-elim}
+use mathlib.Core.Bool.{Bool, true, false}
 use mathlib.Core.List.{List, _∷_, _++_, List·Memᴰ, List·Memᴰ·head, List·Memᴰ·tail, List·Memᴰ·cases-cons, List·Memᴰ·append-cases, Memᴰ·append-left, Memᴰ·append-right, Memᴰ·of-map}
 use Rattle.lists.specs.Members.{_∈_, Some}
+use Rattle.lists.proofs.Tests.{no-clash}
 use Rattle.rules.specs.declared.Enlistment.{Enlistment}
 use Rattle.rules.specs.declared.Vote.{Vote}
-use Rattle.rules.specs.declared.Vote.the-variants as vote
 use Rattle.rules.specs.declared.Reply.the-variants as reply
 use Rattle.rules.specs.declared.Name.{Name}
 use Rattle.rules.specs.declared.Name.the-variants as name
 use Rattle.rules.specs.Identifiers.{Id}
-use Rattle.rules.specs.Kinds as kind
 use Rattle.rules.specs.Sound.{Durable}
 use Rattle.rules.specs.Log.{Entry}
 use Rattle.safety.specs.World.{Note, Message, Issued, issue}
 use Rattle.safety.specs.Host.{Prepares, Closes, MayAsk, now, still}
 use Rattle.rules.specs.Signals.{Committed, Aborted}
 use Rattle.safety.specs.Demand3.{About, Votes, Yes, VotedYes, AllVotedYes}
-use Rattle.safety.proofs.Alone.{Story, none, open-with, closed, bad, Below, below-refl, below-trans, Logged, View, out, early, voting, single, committing, aborting, Hopes, Waits, Unasked, Preparing, NoDurable, managersOf, Entered, Begun, NoAsk, Good, AsksIn, New, Any, Base, Undecided, Shape, ShapeVoting, ShapeCommitting}
+use Rattle.safety.proofs.Alone.{Story, none, open-with, closed, bad, Below, below-refl, below-trans, Logged, none-not-open, closed-not-open, View, out, early, voting, single, committing, aborting, Hopes, Waits, Unasked, Preparing, NoDurable, managersOf, Entered, Begun, NoAsk, Good, AsksIn, New, Any, Base, Undecided, Shape, ShapeVoting, ShapeCommitting}
+
+-- the note tells neither of an enlistment nor of a vote
+abbrev pub isCalm : Note → Bool
+isCalm (Note.begun t) = true
+isCalm (Note.enlisted t n r k) = false
+isCalm (Note.voted t n r k v) = false
+isCalm (Note.replied t n r) = true
+isCalm (Note.acked t n r k) = true
+isCalm (Note.reenlisted r) = true
+isCalm Note.nothing = true
 
 module _ (t : Id) where
-  -- the note tells n⊎-elim of a new enlistment nor of a prepared vote of t
+  -- the note tells neither of a new enlistment nor of a prepared vote of t
   pub record Calm (x : Note) : Type 0 where
     pub not-enlisted : (n : ℕ) (r : Id) (k : ℕ) → x ≡ Note.enlisted t n r k → ⊥
     pub not-prepared : (r : Id) → Prepares t r x → ⊥
+
+  pub calm-note : (x : Note) → isCalm x ≡ true → Calm x
+  calm-note x c = record { not-enlisted = λ n r k p. no-clash (isCalm x) c (ap isCalm p); not-prepared = λ r p. no-clash (isCalm x) c (ap isCalm (p .1)) }
+
+  pub nothing-calm : Calm Note.nothing
+  nothing-calm = calm-note Note.nothing refl
 
   abbrev pub NotEnlisted : Note → Type 0
   NotEnlisted x = (n : ℕ) (r : Id) (k : ℕ) → x ≡ Note.enlisted t n r k → ⊥
@@ -39,81 +56,81 @@ module _ (t : Id) where
   VoteOf n x = (r : Id) × (k : ℕ) × (v : Vote) × (x ≡ Note.voted t n r k v) × Yes v
 
   pub data Doomed : View → Type 0 where
-    d-early : {es : List Enlistment} → Doomed (early es)
-    d-voting : {es : List Enlistment} → Doomed (voting es)
-    d-single : {es : List Enlistment} → Doomed (single es)
-    d-aborting : Doomed aborting
+    from-early : {es : List Enlistment} → Doomed (early es)
+    from-voting : {es : List Enlistment} → Doomed (voting es)
+    from-single : {es : List Enlistment} → Doomed (single es)
+    from-aborting : Doomed aborting
 
   pub data Gone : View → Type 0 where
-    g-out : Gone out
-    g-aborting : Gone aborting
+    to-out : Gone out
+    to-aborting : Gone aborting
 
-  pub data Move (h : List Note) (x : Note) (ms : List Message) (l l′ : Story) : View → View → Type 0 where
+  pub data Move (h : List Note) (x : Note) (ms : List Message) (log log′ : Story) : View → View → Type 0 where
     -- another transaction's step, a refused one, an answer not-yet
-    stay : {v : View} → l′ ≡ l → Calm x → Quiet ms → Move h x ms l l′ v v
-    begin : {es : List Enlistment} → l′ ≡ l → (Begun t h → ⊥) → x ≡ Note.begun t → Quiet ms → Move h x ms l l′ out (early es)
+    stay : {v : View} → log′ ≡ log → Calm x → Quiet ms → Move h x ms log log′ v v
+    begin : {es : List Enlistment} → log′ ≡ log → (Begun t h → ⊥) → x ≡ Note.begun t → Quiet ms → Move h x ms log log′ out (early es)
     -- enlist, commit with P held, zero done
-    gather : {es es′ : List Enlistment} → l′ ≡ l → ((r : Id) → Prepares t r x → ⊥) → Quiet ms
+    gather : {es es′ : List Enlistment} → log′ ≡ log → ((r : Id) → Prepares t r x → ⊥) → Quiet ms
         → ((n : ℕ) → Some (Unasked n) es → Some (Unasked n) es′)
         → ((n : ℕ) (r : Id) (k : ℕ) → x ≡ Note.enlisted t n r k → Votes k → Some (Unasked n) es′)
-        → Move h x ms l l′ (early es) (early es′)
-    prepare : {es es′ : List Enlistment} → l′ ≡ l → Calm x → Quiet ms
+        → Move h x ms log log′ (early es) (early es′)
+    prepare : {es es′ : List Enlistment} → log′ ≡ log → Calm x → Quiet ms
         → ((n : ℕ) → Some (Unasked n) es → Some (Preparing n) es′)
-        → Move h x ms l l′ (early es) (voting es′)
-    ask-one : {es es′ : List Enlistment} {n₀ : ℕ} → l′ ≡ l → Calm x → Quiet ms
+        → Move h x ms log log′ (early es) (voting es′)
+    ask-one : {es es′ : List Enlistment} {n₀ : ℕ} → log′ ≡ log → Calm x → Quiet ms
         → ((n : ℕ) → Some (Unasked n) es → n ≡ n₀)
         → ((e : Enlistment) → e ∈ es′ → e .number ≡ n₀)
         → record { about = t; name = name.Single; number = n₀ } ∈ ms
-        → Move h x ms l l′ (early es) (single es′)
-    commit-empty : {es : List Enlistment} → l′ ≡ l → Calm x → (New t Aborted ms → ⊥)
+        → Move h x ms log log′ (early es) (single es′)
+    commit-empty : {es : List Enlistment} → log′ ≡ log → Calm x → (New t Aborted ms → ⊥)
         → ((n : ℕ) → Some (Unasked n) es → ⊥)
-        → Move h x ms l l′ (early es) out
+        → Move h x ms log log′ (early es) out
     -- a vote that is not the last, a lost prepared D
-    vote-on : {es es′ : List Enlistment} → l′ ≡ l → Quiet ms
+    vote-on : {es es′ : List Enlistment} → log′ ≡ log → Quiet ms
         → NotEnlisted x
         → ((n : ℕ) → Some (Preparing n) es → VoteOf n x ⊎ Some (Preparing n) es′)
         → ((r : Id) → Some (Hopes r) es → Some (Hopes r) es′)
         → ((r : Id) → Prepares t r x → Some (Hopes r) es′)
-        → Move h x ms l l′ (voting es) (voting es′)
-    decide-logged : {es es′ : List Enlistment} {rs : List Entry} → l′ ≡ open-with rs → NotEnlisted x → (New t Aborted ms → ⊥)
+        → Move h x ms log log′ (voting es) (voting es′)
+    decide-logged : {es es′ : List Enlistment} {rs : List Entry} → log′ ≡ open-with rs → NotEnlisted x → (New t Aborted ms → ⊥)
         → ((n : ℕ) → Some (Preparing n) es → VoteOf n x)
         → ((r : Id) → Some (Hopes r) es ⊎ Prepares t r x → Some (Waits r) es′ × (r ∈ managersOf rs))
         → Some Durable es′ → Entered rs es′
-        → Move h x ms l l′ (voting es) (committing es′)
-    decide-unlogged : {es es′ : List Enlistment} → l′ ≡ l → NotEnlisted x → (New t Aborted ms → ⊥)
+        → Move h x ms log log′ (voting es) (committing es′)
+    decide-unlogged : {es es′ : List Enlistment} → log′ ≡ log → NotEnlisted x → (New t Aborted ms → ⊥)
         → ((n : ℕ) → Some (Preparing n) es → VoteOf n x)
         → ((r : Id) → Some (Hopes r) es ⊎ Prepares t r x → ⊥)
         → NoDurable es′
-        → Move h x ms l l′ (voting es) (committing es′)
-    decide-empty : {es : List Enlistment} → l′ ≡ l → NotEnlisted x → (New t Aborted ms → ⊥)
+        → Move h x ms log log′ (voting es) (committing es′)
+    decide-empty : {es : List Enlistment} → log′ ≡ log → NotEnlisted x → (New t Aborted ms → ⊥)
         → ((n : ℕ) → Some (Preparing n) es → VoteOf n x)
         → ((r : Id) → Some (Hopes r) es ⊎ Prepares t r x → ⊥)
-        → Move h x ms l l′ (voting es) out
+        → Move h x ms log log′ (voting es) out
     -- abort, a single-phase reply other than committed, and all that follows an abort
-    abort : {v v′ : View} → l′ ≡ l → Doomed v → Gone v′ → (New t Committed ms → ⊥) → Move h x ms l l′ v v′
-    replied : {es : List Enlistment} {n₀ : ℕ} → l′ ≡ l → x ≡ Note.replied t n₀ reply.Committed → Some (λ e. e .number ≡ n₀) es → (New t Aborted ms → ⊥) → Move h x ms l l′ (single es) out
+    abort : {v v′ : View} → log′ ≡ log → Doomed v → Gone v′ → (New t Committed ms → ⊥) → Move h x ms log log′ v v′
+    replied : {es : List Enlistment} {n₀ : ℕ} → log′ ≡ log → x ≡ Note.replied t n₀ reply.Committed → Some (λ e. e .number ≡ n₀) es → (New t Aborted ms → ⊥) → Move h x ms log log′ (single es) out
     -- ack, lost, ask, re-enlisted after the decision to commit
-    told-on : {es es′ : List Enlistment} → l′ ≡ l → Calm x → (New t Aborted ms → ⊥)
+    told-on : {es es′ : List Enlistment} → log′ ≡ log → Calm x → (New t Aborted ms → ⊥)
         → ((r : Id) → Some (Waits r) es → Some (Waits r) es′ ⊎ Closes t r x)
         → (Some Durable es → Some Durable es′) → (NoDurable es → NoDurable es′) → ((n : ℕ) → Some (λ e. e .number ≡ n) es → Some (λ e. e .number ≡ n) es′)
-        → Move h x ms l l′ (committing es) (committing es′)
-    end-logged : {es : List Enlistment} → l′ ≡ closed → Calm x → Quiet ms
+        → Move h x ms log log′ (committing es) (committing es′)
+    end-logged : {es : List Enlistment} → log′ ≡ closed → Calm x → Quiet ms
         → ((r : Id) → Some (Waits r) es → Closes t r x)
-        → Move h x ms l l′ (committing es) out
-    end-unlogged : {es : List Enlistment} → l′ ≡ l → Calm x → Quiet ms → NoDurable es → Move h x ms l l′ (committing es) out
-    answer-out : (r : Id) → l′ ≡ l → MayAsk t r h → Calm x → (New t Committed ms → ⊥) → Move h x ms l l′ out out
+        → Move h x ms log log′ (committing es) out
+    end-unlogged : {es : List Enlistment} → log′ ≡ log → Calm x → Quiet ms → NoDurable es → Move h x ms log log′ (committing es) out
+    answer-out : (r : Id) → log′ ≡ log → MayAsk t r h → Calm x → (New t Committed ms → ⊥) → Move h x ms log log′ out out
 
   -- ── small laws ────────────────────────────────────────────────────────────────────────────────────────────────
 
-  pub any-new : (P : Name → Type 0) (im : List ℕ) (ms : List Message) (wa se : List Issued) → Any t P (issue im ms ++ wa) se → New t P ms ⊎ Any t P wa se
-  any-new P im ms wa se (inr s) = inr (inr s)
-  any-new P im ms wa se (inl s) = go (List·Memᴰ·append-cases (issue im ms) (s .there))
+  pub any-new : (P : Name → Type 0) (image : List ℕ) (ms : List Message) (waiting sent : List Issued) → Any t P (issue image ms ++ waiting) sent → New t P ms ⊎ Any t P waiting sent
+  any-new P image ms waiting sent (inr s) = inr (inr s)
+  any-new P image ms waiting sent (inl s) = go (List·Memᴰ·append-cases (issue image ms) (s .there))
     where
-      new : (m : Message) × List·Memᴰ m ms × (record { image = im; message = m } ≡ s .it) → New t P ms
+      new : (m : Message) × List·Memᴰ m ms × (record { image = image; message = m } ≡ s .it) → New t P ms
       new (m, i, e) = record { it = m; there = i; holds = rw (← e) at (s .holds) }
 
-      go : s .it ∈ issue im ms ⊎ s .it ∈ wa → New t P ms ⊎ Any t P wa se
-      go (inl i) = inl (new (Memᴰ·of-map (λ m. record { image = im; message = m }) ms i))
+      go : s .it ∈ issue image ms ⊎ s .it ∈ waiting → New t P ms ⊎ Any t P waiting sent
+      go (inl i) = inl (new (Memᴰ·of-map (λ m. record { image = image; message = m }) ms i))
       go (inr i) = inr (inl (record { it = s .it; there = i; holds = s .holds }))
 
   pub may-ask : {r : Id} {x : Note} {h : List Note} → MayAsk t r (x ∷ h) → Prepares t r x ⊎ ((Closes t r x → ⊥) × MayAsk t r h)
@@ -136,7 +153,7 @@ module _ (t : Id) where
   old : {n : ℕ} {r : Id} {k : ℕ} {x : Note} {h : List Note} → NotEnlisted x → Note.enlisted t n r k ∈ x ∷ h → Note.enlisted t n r k ∈ h
   old {n} {r} {k} c m = ⊎-elim (λ e. absurd (c n r k (sym e))) (λ i. i) (List·Memᴰ·cases-cons m)
 
-  good-more : {x : Note} {h : List Note} {is : List Message} (ms : List Message) → NotEnlisted x → Good t h is → Good t (x ∷ h) (ms ++ is)
+  good-more : {x : Note} {h : List Note} {issued : List Message} (ms : List Message) → NotEnlisted x → Good t h issued → Good t (x ∷ h) (ms ++ issued)
   good-more {x} ms c (inl a) = inl (λ n r k i m. voted-more x (a n r k (old c i) m))
   good-more {x} ms c (inr o) = inr (record {
     number = o .number;
@@ -145,7 +162,7 @@ module _ (t : Id) where
     answered = List·Memᴰ·tail (o .answered);
   })
 
-  asks-calm : {x : Note} (h : List Note) (l : Story) → ((q : Id) → Prepares t q x → ⊥) → AsksIn t l h → AsksIn t l (x ∷ h)
+  asks-calm : {x : Note} (h : List Note) (log : Story) → ((q : Id) → Prepares t q x → ⊥) → AsksIn t log h → AsksIn t log (x ∷ h)
   asks-calm h none c a = tt
   asks-calm h (open-with rs) c a = λ r m. a r (ask-calm c m)
   asks-calm h closed c a = no-ask-calm c a
@@ -153,43 +170,43 @@ module _ (t : Id) where
 
   -- ── the invariant of the base ─────────────────────────────────────────────────────────────────────────────────
 
-  module _ (S : List ℕ → Story) (disk l l′ : Story) (h : List Note) (x : Note) (ms is : List Message) (wa se : List Issued) (im : List ℕ) (img : S im ≡ l′) where
+  module _ (storyOf : List ℕ → Story) (disk log log′ : Story) (h : List Note) (x : Note) (ms issued : List Message) (waiting sent : List Issued) (image : List ℕ) (imaged : storyOf image ≡ log′) where
     abbrev pub Old : Type 0
-    Old = Base t S l disk h wa se is
+    Old = Base t storyOf log disk h waiting sent issued
 
     abbrev pub Next : Type 0
-    Next = Base t S l′ disk (x ∷ h) (issue im ms ++ wa) se (ms ++ is)
+    Next = Base t storyOf log′ disk (x ∷ h) (issue image ms ++ waiting) sent (ms ++ issued)
 
     abbrev pub Committed′ : Type 0
-    Committed′ = Any t Committed (issue im ms ++ wa) se
+    Committed′ = Any t Committed (issue image ms ++ waiting) sent
 
     abbrev pub Aborted′ : Type 0
-    Aborted′ = Any t Aborted (issue im ms ++ wa) se
+    Aborted′ = Any t Aborted (issue image ms ++ waiting) sent
 
     -- a commit message among those that wait is new, or waited before
-    waits-cases : (i : Issued) → i ∈ issue im ms ++ wa → i .message .about ≡ t → Committed (i .message .name)
-        → (New t Committed ms → NoAsk t (x ∷ h) ⊎ Logged l′)
-        → (i ∈ wa → NoAsk t (x ∷ h) ⊎ Logged (S (i .image)))
-        → NoAsk t (x ∷ h) ⊎ Logged (S (i .image))
-    waits-cases i p a c f g = ⊎-elim new g (List·Memᴰ·append-cases (issue im ms) p)
+    waits-cases : (i : Issued) → i ∈ issue image ms ++ waiting → i .message .about ≡ t → Committed (i .message .name)
+        → (New t Committed ms → NoAsk t (x ∷ h) ⊎ Logged log′)
+        → (i ∈ waiting → NoAsk t (x ∷ h) ⊎ Logged (storyOf (i .image)))
+        → NoAsk t (x ∷ h) ⊎ Logged (storyOf (i .image))
+    waits-cases i p a c f g = ⊎-elim new g (List·Memᴰ·append-cases (issue image ms) p)
       where
-        fit : (m : Message) × List·Memᴰ m ms × (record { image = im; message = m } ≡ i) → NoAsk t (x ∷ h) ⊎ Logged (S (i .image))
-        fit (m, q, e) = ⊎-elim inl (λ lg. inr (rw (← e, img) lg)) (f (record { it = m; there = q; holds = (rw (← e) at a, rw (← e) at c) }))
+        fit : (m : Message) × List·Memᴰ m ms × (record { image = image; message = m } ≡ i) → NoAsk t (x ∷ h) ⊎ Logged (storyOf (i .image))
+        fit (m, q, e) = ⊎-elim inl (λ logged. inr (rw (← e, imaged) logged)) (f (record { it = m; there = q; holds = (rw (← e) at a, rw (← e) at c) }))
 
-        new : i ∈ issue im ms → NoAsk t (x ∷ h) ⊎ Logged (S (i .image))
-        new q = fit (Memᴰ·of-map (λ m. record { image = im; message = m }) ms q)
+        new : i ∈ issue image ms → NoAsk t (x ∷ h) ⊎ Logged (storyOf (i .image))
+        new q = fit (Memᴰ·of-map (λ m. record { image = image; message = m }) ms q)
 
     -- the transaction has begun: all that is left to say
-    make : Old → (l′ ≡ bad → ⊥) → Below l l′ → Begun t h → AsksIn t l′ (x ∷ h)
-        → (Committed′ ⊎ Logged l′ → Good t (x ∷ h) (ms ++ is))
-        → (Committed′ ⊎ Logged l′ → Aborted′ → ⊥)
-        → (New t Committed ms → NoAsk t (x ∷ h) ⊎ Logged l′)
-        → ((i : Issued) → i ∈ wa → i .message .about ≡ t → Committed (i .message .name) → NoAsk t (x ∷ h) ⊎ Logged (S (i .image)))
-        → ((i : Issued) → i ∈ se → i .message .about ≡ t → Committed (i .message .name) → NoAsk t (x ∷ h) ⊎ Logged disk)
+    make : Old → (log′ ≡ bad → ⊥) → Below log log′ → Begun t h → AsksIn t log′ (x ∷ h)
+        → (Committed′ ⊎ Logged log′ → Good t (x ∷ h) (ms ++ issued))
+        → (Committed′ ⊎ Logged log′ → Aborted′ → ⊥)
+        → (New t Committed ms → NoAsk t (x ∷ h) ⊎ Logged log′)
+        → ((i : Issued) → i ∈ waiting → i .message .about ≡ t → Committed (i .message .name) → NoAsk t (x ∷ h) ⊎ Logged (storyOf (i .image)))
+        → ((i : Issued) → i ∈ sent → i .message .about ≡ t → Committed (i .message .name) → NoAsk t (x ∷ h) ⊎ Logged disk)
         → Next
     make b fine low begun asks good apart new waits leaves = record {
       fine = fine;
-      below = below-trans disk l l′ (b .below) low;
+      below = below-trans disk log log′ (b .below) low;
       begun-log = λ _. List·Memᴰ·tail begun;
       begun-committed = λ _. List·Memᴰ·tail begun;
       begun-aborted = λ _. List·Memᴰ·tail begun;
@@ -204,56 +221,56 @@ module _ (t : Id) where
       leaves = leaves;
     }
 
-    committed-cases : Committed′ → New t Committed ms ⊎ Any t Committed wa se
-    committed-cases = any-new Committed im ms wa se
+    committed-cases : Committed′ → New t Committed ms ⊎ Any t Committed waiting sent
+    committed-cases = any-new Committed image ms waiting sent
 
-    aborted-cases : Aborted′ → New t Aborted ms ⊎ Any t Aborted wa se
-    aborted-cases = any-new Aborted im ms wa se
+    aborted-cases : Aborted′ → New t Aborted ms ⊎ Any t Aborted waiting sent
+    aborted-cases = any-new Aborted image ms waiting sent
 
-    no-committed′ : (New t Committed ms → ⊥) → (Any t Committed wa se → ⊥) → Committed′ → ⊥
+    no-committed′ : (New t Committed ms → ⊥) → (Any t Committed waiting sent → ⊥) → Committed′ → ⊥
     no-committed′ f g c = ⊎-elim f g (committed-cases c)
 
-    no-aborted′ : (New t Aborted ms → ⊥) → (Any t Aborted wa se → ⊥) → Aborted′ → ⊥
+    no-aborted′ : (New t Aborted ms → ⊥) → (Any t Aborted waiting sent → ⊥) → Aborted′ → ⊥
     no-aborted′ f g c = ⊎-elim f g (aborted-cases c)
 
-    some-wa : (i : Issued) → i ∈ wa → i .message .about ≡ t → Committed (i .message .name) → Any t Committed wa se
-    some-wa i p a c = inl (record { it = i; there = p; holds = (a, c) })
+    some-waiting : (i : Issued) → i ∈ waiting → i .message .about ≡ t → Committed (i .message .name) → Any t Committed waiting sent
+    some-waiting i p a c = inl (record { it = i; there = p; holds = (a, c) })
 
-    some-se : (i : Issued) → i ∈ se → i .message .about ≡ t → Committed (i .message .name) → Any t Committed wa se
-    some-se i p a c = inr (record { it = i; there = p; holds = (a, c) })
+    some-sent : (i : Issued) → i ∈ sent → i .message .about ≡ t → Committed (i .message .name) → Any t Committed waiting sent
+    some-sent i p a c = inr (record { it = i; there = p; holds = (a, c) })
 
     -- no commit message before and none now
-    make-none : Old → Begun t h → (l′ ≡ none) → (l ≡ none) → (Committed′ → ⊥) → (Any t Committed wa se → ⊥) → Next
-    make-none b begun e e₀ nc nc₀ =
-        make b (rw e none-fine) (rw e₀ tt) begun (rw e tt)
-        (⊎-elim (λ c. absurd (nc c)) (λ g. absurd (rw e at g)))
-        (⊎-elim (λ c a. nc c) (λ g a. rw e at g))
-        (λ m. absurd (nc (inl (some-new m))))
-        (λ i p a c. absurd (nc₀ (some-wa i p a c)))
-        (λ i p a c. absurd (nc₀ (some-se i p a c)))
+    make-none : Old → Begun t h → (log′ ≡ none) → (log ≡ none) → (Committed′ → ⊥) → (Any t Committed waiting sent → ⊥) → Next
+    make-none b begun e before no-commit no-commit-before =
+        make b (rw e none-fine) (rw before tt) begun (rw e tt)
+        (⊎-elim (λ c. absurd (no-commit c)) (λ g. absurd (rw e at g)))
+        (⊎-elim (λ c a. no-commit c) (λ g a. rw e at g))
+        (λ m. absurd (no-commit (inl (some-new m))))
+        (λ i p a c. absurd (no-commit-before (some-waiting i p a c)))
+        (λ i p a c. absurd (no-commit-before (some-sent i p a c)))
       where
         none-fine : none ≡ bad → ⊥
         none-fine p = let z : _≡_ {A = ℕ} 0 1 = cc in omega arith
 
-        some-new : New t Committed ms → About t Committed (issue im ms ++ wa)
-        some-new m = record { it = record { image = im; message = m .it }; there = Memᴰ·append-left wa (mapped (m .there)); holds = m .holds }
+        some-new : New t Committed ms → About t Committed (issue image ms ++ waiting)
+        some-new m = record { it = record { image = image; message = m .it }; there = Memᴰ·append-left waiting (mapped (m .there)); holds = m .holds }
           where
-            mapped : {m : Message} {ms : List Message} → m ∈ ms → record { image = im; message = m } ∈ issue im ms
-            mapped i = mathlib.Core.List.Memᴰ·map (λ m. record { image = im; message = m }) i
+            mapped : {m : Message} {ms : List Message} → m ∈ ms → record { image = image; message = m } ∈ issue image ms
+            mapped i = mathlib.Core.List.Memᴰ·map (λ m. record { image = image; message = m }) i
 
     -- no commit message before, and no abort message at all
-    make-first : Old → Undecided t l h wa se → (l′ ≡ bad → ⊥) → Below l l′ → AsksIn t l′ (x ∷ h) → Good t (x ∷ h) (ms ++ is) → (New t Aborted ms → ⊥) → NoAsk t (x ∷ h) ⊎ Logged l′ → Next
-    make-first b u fine low asks good na nl =
-        make b fine low (u .begun) asks (λ _. good) (λ _ a. no-aborted′ na (u .no-aborted) a) (λ _. nl)
-        (λ i p a c. absurd (u .no-committed (some-wa i p a c)))
-        (λ i p a c. absurd (u .no-committed (some-se i p a c)))
+    make-first : Old → Undecided t log h waiting sent → (log′ ≡ bad → ⊥) → Below log log′ → AsksIn t log′ (x ∷ h) → Good t (x ∷ h) (ms ++ issued) → (New t Aborted ms → ⊥) → NoAsk t (x ∷ h) ⊎ Logged log′ → Next
+    make-first b u fine low asks good no-abort no-ask-or-logged =
+        make b fine low (u .begun) asks (λ _. good) (λ _ a. no-aborted′ no-abort (u .no-aborted) a) (λ _. no-ask-or-logged)
+        (λ i p a c. absurd (u .no-committed (some-waiting i p a c)))
+        (λ i p a c. absurd (u .no-committed (some-sent i p a c)))
 
     lift-waits : ((q : Id) → Prepares t q x → ⊥) → {A : Type 0} → NoAsk t h ⊎ A → NoAsk t (x ∷ h) ⊎ A
     lift-waits c (inl n) = inl (no-ask-calm c n)
     lift-waits c (inr a) = inr a
 
     -- the note is calm
-    make-calm : Old → Begun t h → Calm x → (l′ ≡ bad → ⊥) → Below l l′ → AsksIn t l′ (x ∷ h) → Good t h is ⊎ (Committed′ ⊎ Logged l′ → Good t h is) → (Committed′ ⊎ Logged l′ → Aborted′ → ⊥) → (New t Committed ms → NoAsk t (x ∷ h) ⊎ Logged l′) → Next
+    make-calm : Old → Begun t h → Calm x → (log′ ≡ bad → ⊥) → Below log log′ → AsksIn t log′ (x ∷ h) → Good t h issued ⊎ (Committed′ ⊎ Logged log′ → Good t h issued) → (Committed′ ⊎ Logged log′ → Aborted′ → ⊥) → (New t Committed ms → NoAsk t (x ∷ h) ⊎ Logged log′) → Next
     make-calm b begun calm fine low asks good apart new =
         make b fine low begun asks
         (λ p. good-more ms (calm .not-enlisted) (⊎-elim (λ g. g) (λ f. f p) good))
@@ -263,83 +280,59 @@ module _ (t : Id) where
 
     -- ── each move keeps the base ────────────────────────────────────────────────────────────────────────────────
 
-    pub make-stay : Old → Calm x → Quiet ms → l′ ≡ l → Next
+    pub make-stay : Old → Calm x → Quiet ms → log′ ≡ log → Next
     make-stay b calm q e = record {
       fine = rw e (b .fine);
       below = rw e (b .below);
       begun-log = λ g. List·Memᴰ·tail (b .begun-log (rw e at g));
-      begun-committed = λ c. List·Memᴰ·tail (b .begun-committed (oldc c));
-      begun-aborted = λ a. List·Memᴰ·tail (b .begun-aborted (olda a));
+      begun-committed = λ c. List·Memᴰ·tail (b .begun-committed (committed-before c));
+      begun-aborted = λ a. List·Memᴰ·tail (b .begun-aborted (aborted-before a));
       begun-enlisted = λ n r k i. List·Memᴰ·tail (b .begun-enlisted n r k (old (calm .not-enlisted) i));
       begun-ask = λ r m. List·Memᴰ·tail (b .begun-ask r (ask-calm (calm .not-prepared) m));
-      both = λ c a. b .both (oldc c) (olda a);
-      good-committed = λ c. good-more ms (calm .not-enlisted) (b .good-committed (oldc c));
+      both = λ c a. b .both (committed-before c) (aborted-before a);
+      good-committed = λ c. good-more ms (calm .not-enlisted) (b .good-committed (committed-before c));
       good-log = λ g. good-more ms (calm .not-enlisted) (b .good-log (rw e at g));
-      kept = λ g a. b .kept (rw e at g) (olda a);
-      asks = rw e (asks-calm h l (calm .not-prepared) (b .asks));
+      kept = λ g a. b .kept (rw e at g) (aborted-before a);
+      asks = rw e (asks-calm h log (calm .not-prepared) (b .asks));
       waits = λ i p a c. waits-cases i p a c (λ m. absurd (q .no-committed m)) (λ w. lift-waits (calm .not-prepared) (b .waits i w a c));
       leaves = λ i p a c. lift-waits (calm .not-prepared) (b .leaves i p a c);
     }
       where
-        oldc : Committed′ → Any t Committed wa se
-        oldc c = ⊎-elim (λ m. absurd (q .no-committed m)) (λ y. y) (committed-cases c)
+        committed-before : Committed′ → Any t Committed waiting sent
+        committed-before c = ⊎-elim (λ m. absurd (q .no-committed m)) (λ y. y) (committed-cases c)
 
-        olda : Aborted′ → Any t Aborted wa se
-        olda c = ⊎-elim (λ m. absurd (q .no-aborted m)) (λ y. y) (aborted-cases c)
+        aborted-before : Aborted′ → Any t Aborted waiting sent
+        aborted-before c = ⊎-elim (λ m. absurd (q .no-aborted m)) (λ y. y) (aborted-cases c)
 
-    make-undecided : Old → Undecided t l h wa se → l′ ≡ l → Quiet ms → Next
+    make-undecided : Old → Undecided t log h waiting sent → log′ ≡ log → Quiet ms → Next
     make-undecided b u e q = make-none b (u .begun) (e ∙ u .log-none) (u .log-none) (no-committed′ (q .no-committed) (u .no-committed)) (u .no-committed)
 
     pub record Doom : Type 0 where
-      pub log-none : l ≡ none
+      pub log-none : log ≡ none
       pub begun : Begun t h
-      pub no-committed : Any t Committed wa se → ⊥
+      pub no-committed : Any t Committed waiting sent → ⊥
 
-    from-undecided : Undecided t l h wa se → Doom
+    from-undecided : Undecided t log h waiting sent → Doom
     from-undecided u = record { log-none = u .log-none; begun = u .begun; no-committed = u .no-committed }
 
-    doom : {v : View} → Doomed v → Shape t v l h wa se is → Doom
-    doom d-early s = from-undecided (s .undecided)
-    doom d-voting s = from-undecided (s .undecided)
-    doom d-single s = from-undecided (s .undecided)
-    doom d-aborting s = record { log-none = s .log-none; begun = s .begun; no-committed = s .no-committed }
+    doom : {v : View} → Doomed v → Shape t v log h waiting sent issued → Doom
+    doom from-early s = from-undecided (s .undecided)
+    doom from-voting s = from-undecided (s .undecided)
+    doom from-single s = from-undecided (s .undecided)
+    doom from-aborting s = record { log-none = s .log-none; begun = s .begun; no-committed = s .no-committed }
 
-    below-same : l′ ≡ l → Below l l′
-    below-same e = rw e (below-refl l)
+    below-same : log′ ≡ log → Below log log′
+    below-same e = rw e (below-refl log)
 
-    asks-none : l′ ≡ none → AsksIn t l′ (x ∷ h)
+    asks-none : log′ ≡ none → AsksIn t log′ (x ∷ h)
     asks-none e = rw e tt
 
-    not-begun-enlisted : x ≡ Note.begun t → Calm x
-    not-begun-enlisted e = record {
-      not-enlisted = λ n r k p. absurd (never (sym e ∙ p));
-      not-prepared = λ r p. absurd (never₂ (sym e ∙ p .1));
-    }
-      where
-        never : {n : ℕ} {r : Id} {k : ℕ} → Note.begun t ≡ Note.enlisted t n r k → ⊥
-        never p = let z : _≡_ {A = ℕ} 0 1 = cc in omega arith
-
-        never₂ : {n : ℕ} {r : Id} → Note.begun t ≡ Note.voted t n r kind.durable vote.Prepared → ⊥
-        never₂ p = let z : _≡_ {A = ℕ} 0 1 = cc in omega arith
-
-    replied-calm : {n₀ : ℕ} → x ≡ Note.replied t n₀ reply.Committed → Calm x
-    replied-calm {n₀} e = record {
-      not-enlisted = λ n r k p. absurd (never (sym e ∙ p));
-      not-prepared = λ r p. absurd (never₂ (sym e ∙ p .1));
-    }
-      where
-        never : {n : ℕ} {r : Id} {k : ℕ} → Note.replied t n₀ reply.Committed ≡ Note.enlisted t n r k → ⊥
-        never p = let z : _≡_ {A = ℕ} 0 1 = cc in omega arith
-
-        never₂ : {n : ℕ} {r : Id} → Note.replied t n₀ reply.Committed ≡ Note.voted t n r kind.durable vote.Prepared → ⊥
-        never₂ p = let z : _≡_ {A = ℕ} 0 1 = cc in omega arith
-
     -- every enlistment has voted yes, if x is the last vote
-    last-vote : {es : List Enlistment} → ShapeVoting t es l h wa se → NotEnlisted x → ((n : ℕ) → Some (Preparing n) es → VoteOf n x) → AllVotedYes t (x ∷ h)
+    last-vote : {es : List Enlistment} → ShapeVoting t es log h waiting sent → NotEnlisted x → ((n : ℕ) → Some (Preparing n) es → VoteOf n x) → AllVotedYes t (x ∷ h)
     last-vote s c f n r k i m = ⊎-elim (voted-more x) (λ p. vote-of h (f n p)) (s .held n r k (old c i) m)
 
     -- who may ask now has prepared with x, or before
-    hoping : {es : List Enlistment} → ShapeVoting t es l h wa se → (r : Id) → MayAsk t r (x ∷ h) → Some (Hopes r) es ⊎ Prepares t r x
+    hoping : {es : List Enlistment} → ShapeVoting t es log h waiting sent → (r : Id) → MayAsk t r (x ∷ h) → Some (Hopes r) es ⊎ Prepares t r x
     hoping s r m = ⊎-elim inr (λ p. inl (s .hopes r (p .1))) (may-ask m)
 
     no-durable-ask : {es : List Enlistment} → ((r : Id) → MayAsk t r h → Some (Waits r) es) → NoDurable es → NoAsk t h
@@ -366,52 +359,52 @@ module _ (t : Id) where
     close-all : {es : List Enlistment} → Calm x → ((r : Id) → MayAsk t r h → Some (Waits r) es) → ((r : Id) → Some (Waits r) es → Closes t r x) → NoAsk t (x ∷ h)
     close-all c f g r m = ⊎-elim (c .not-prepared r) (λ p. p .0 (g r (f r (p .1)))) (may-ask m)
 
-    told-waits : {es : List Enlistment} → Calm x → ShapeCommitting t es l h wa se is → l′ ≡ l → NoAsk t (x ∷ h) ⊎ Logged l′
+    told-waits : {es : List Enlistment} → Calm x → ShapeCommitting t es log h waiting sent issued → log′ ≡ log → NoAsk t (x ∷ h) ⊎ Logged log′
     told-waits c s e = ⊎-elim
         (λ p. inr (rw (e, p .1) tt))
         (λ p. inl (no-ask-calm (c .not-prepared) (no-durable-ask (s .wait) (p .1))))
         (s .record-or-none)
 
-    pub keep-base : {v v′ : View} → Old → Shape t v l h wa se is → Move h x ms l l′ v v′ → Next
+    pub keep-base : {v v′ : View} → Old → Shape t v log h waiting sent issued → Move h x ms log log′ v v′ → Next
     keep-base b s (stay e c q) = make-stay b c q e
-    keep-base b s (begin e nb xe q) = make-stay b (not-begun-enlisted xe) q e
-    keep-base b s (gather e np q f g) = make-undecided b (s .undecided) e q
+    keep-base b s (begin e not-begun noted q) = make-stay b (calm-note x (ap isCalm noted)) q e
+    keep-base b s (gather e not-prepared q f g) = make-undecided b (s .undecided) e q
     keep-base b s (prepare e c q f) = make-undecided b (s .undecided) e q
     keep-base b s (ask-one e c q f g m) = make-undecided b (s .undecided) e q
-    keep-base b s (commit-empty e c na f) =
+    keep-base b s (commit-empty e c no-abort f) =
         make-first b (s .undecided) (rw e (b .fine)) (below-same e) (asks-none (e ∙ s .undecided .log-none))
-        (inl (λ n r k i m. absurd (f n (s .held n r k (old (c .not-enlisted) i) m)))) na (inl (no-ask-calm (c .not-prepared) (s .no-ask)))
-    keep-base b s (vote-on e q ne f g p) = make-undecided b (s .undecided) e q
-    keep-base b s (decide-logged e ne na f g d n) =
+        (inl (λ n r k i m. absurd (f n (s .held n r k (old (c .not-enlisted) i) m)))) no-abort (inl (no-ask-calm (c .not-prepared) (s .no-ask)))
+    keep-base b s (vote-on e q not-enlisted f g p) = make-undecided b (s .undecided) e q
+    keep-base b s (decide-logged e not-enlisted no-abort f g d n) =
         make-first b (s .undecided) (rw e open-fine) (rw (s .undecided .log-none) tt) (rw e (λ r m. g r (hoping s r m) .1))
-        (inl (last-vote s ne f)) na (inr (rw e tt))
-    keep-base b s (decide-unlogged e ne na f g d) =
+        (inl (last-vote s not-enlisted f)) no-abort (inr (rw e tt))
+    keep-base b s (decide-unlogged e not-enlisted no-abort f g d) =
         make-first b (s .undecided) (rw e (b .fine)) (below-same e) (asks-none (e ∙ s .undecided .log-none))
-        (inl (last-vote s ne f)) na (inl (λ r m. g r (hoping s r m)))
-    keep-base b s (decide-empty e ne na f g) =
+        (inl (last-vote s not-enlisted f)) no-abort (inl (λ r m. g r (hoping s r m)))
+    keep-base b s (decide-empty e not-enlisted no-abort f g) =
         make-first b (s .undecided) (rw e (b .fine)) (below-same e) (asks-none (e ∙ s .undecided .log-none))
-        (inl (last-vote s ne f)) na (inl (λ r m. g r (hoping s r m)))
-    keep-base b s (abort e d g nc) = let z : Doom = doom d s in make-none b (z .begun) (e ∙ z .log-none) (z .log-none) (no-committed′ nc (z .no-committed)) (z .no-committed)
-    keep-base b s (replied {n₀ = n₀} e xe w na) =
+        (inl (last-vote s not-enlisted f)) no-abort (inl (λ r m. g r (hoping s r m)))
+    keep-base b s (abort e d g no-commit) = let z : Doom = doom d s in make-none b (z .begun) (e ∙ z .log-none) (z .log-none) (no-committed′ no-commit (z .no-committed)) (z .no-committed)
+    keep-base b s (replied {n₀ = n₀} e noted w no-abort) =
         make-first b (s .undecided) (rw e (b .fine)) (below-same e) (asks-none (e ∙ s .undecided .log-none))
-        (inr (record { number = n₀; only = λ n r k i m. s .only n r k (old (replied-calm xe .not-enlisted) i) m ∙ is-it; asked = rw (← is-it) (Memᴰ·append-right ms (s .asked)); answered = List·Memᴰ·head (sym xe) }))
-        na (inl (no-ask-calm (replied-calm xe .not-prepared) (s .no-ask)))
+        (inr (record { number = n₀; only = λ n r k i m. s .only n r k (old (calm-note x (ap isCalm noted) .not-enlisted) i) m ∙ is-it; asked = rw (← is-it) (Memᴰ·append-right ms (s .asked)); answered = List·Memᴰ·head (sym noted) }))
+        no-abort (inl (no-ask-calm (calm-note x (ap isCalm noted) .not-prepared) (s .no-ask)))
       where
         is-it : s .number ≡ n₀
         is-it = sym (s .numbers (w .it) (w .there)) ∙ w .holds
-    keep-base b s (told-on e c na f g d n) =
-        make-calm b (s .begun) c (rw e (b .fine)) (below-same e) (rw e (asks-calm h l (c .not-prepared) (b .asks))) (inl (s .good)) (λ _ a. no-aborted′ na (s .no-aborted) a) (λ _. told-waits c s e)
+    keep-base b s (told-on e c no-abort f g d n) =
+        make-calm b (s .begun) c (rw e (b .fine)) (below-same e) (rw e (asks-calm h log (c .not-prepared) (b .asks))) (inl (s .good)) (λ _ a. no-aborted′ no-abort (s .no-aborted) a) (λ _. told-waits c s e)
     keep-base b s (end-logged e c q f) =
-        make-calm b (s .begun) c (rw e closed-fine) (rw e (below-closed l (b .fine))) (rw e (close-all c (s .wait) f)) (inl (s .good)) (λ _ a. no-aborted′ (q .no-aborted) (s .no-aborted) a) (λ m. absurd (q .no-committed m))
+        make-calm b (s .begun) c (rw e closed-fine) (rw e (below-closed log (b .fine))) (rw e (close-all c (s .wait) f)) (inl (s .good)) (λ _ a. no-aborted′ (q .no-aborted) (s .no-aborted) a) (λ m. absurd (q .no-committed m))
     keep-base b s (end-unlogged e c q d) =
-        make-calm b (s .begun) c (rw e (b .fine)) (below-same e) (rw e (asks-calm h l (c .not-prepared) (b .asks))) (inl (s .good)) (λ _ a. no-aborted′ (q .no-aborted) (s .no-aborted) a) (λ m. absurd (q .no-committed m))
-    keep-base b s (answer-out r e m c nc) =
-        let z : l ≡ none = out-none l (b .asks) (s .not-open) r m in
-        make-none b (b .begun-ask r m) (e ∙ z) z (no-committed′ nc (λ a. s .no-ask a r m)) (λ a. s .no-ask a r m)
+        make-calm b (s .begun) c (rw e (b .fine)) (below-same e) (rw e (asks-calm h log (c .not-prepared) (b .asks))) (inl (s .good)) (λ _ a. no-aborted′ (q .no-aborted) (s .no-aborted) a) (λ m. absurd (q .no-committed m))
+    keep-base b s (answer-out r e m c no-commit) =
+        let z : log ≡ none = out-none log (b .asks) (s .not-open) r m in
+        make-none b (b .begun-ask r m) (e ∙ z) z (no-committed′ no-commit (λ a. s .no-ask a r m)) (λ a. s .no-ask a r m)
 
     -- ── each move keeps the shape ───────────────────────────────────────────────────────────────────────────────
 
-    undecided-next : Undecided t l h wa se → l′ ≡ l → Quiet ms → Undecided t l′ (x ∷ h) (issue im ms ++ wa) se
+    undecided-next : Undecided t log h waiting sent → log′ ≡ log → Quiet ms → Undecided t log′ (x ∷ h) (issue image ms ++ waiting) sent
     undecided-next u e q = record {
       log-none = e ∙ u .log-none;
       begun = List·Memᴰ·tail (u .begun);
@@ -420,38 +413,29 @@ module _ (t : Id) where
     }
 
     abbrev pub Shape′ : View → Type 0
-    Shape′ v = Shape t v l′ (x ∷ h) (issue im ms ++ wa) se (ms ++ is)
+    Shape′ v = Shape t v log′ (x ∷ h) (issue image ms ++ waiting) sent (ms ++ issued)
 
-    told-shape : {es es′ : List Enlistment} → ShapeCommitting t es l h wa se is → l′ ≡ l → Calm x → (New t Aborted ms → ⊥)
+    told-shape : {es es′ : List Enlistment} → ShapeCommitting t es log h waiting sent issued → log′ ≡ log → Calm x → (New t Aborted ms → ⊥)
         → ((r : Id) → Some (Waits r) es → Some (Waits r) es′ ⊎ Closes t r x)
         → (Some Durable es → Some Durable es′) → (NoDurable es → NoDurable es′) → ((n : ℕ) → Some (λ e. e .number ≡ n) es → Some (λ e. e .number ≡ n) es′)
         → Shape′ (committing es′)
-    told-shape s e c na f g d k = record {
+    told-shape s e c no-abort f g d k = record {
       begun = List·Memᴰ·tail (s .begun);
-      no-aborted = no-aborted′ na (s .no-aborted);
+      no-aborted = no-aborted′ no-abort (s .no-aborted);
       good = good-more ms (c .not-enlisted) (s .good);
-      wait = λ r m. ⊎-elim (λ p. absurd (c .not-prepared r p)) (λ p. ⊎-elim (λ w. w) (λ cl. absurd (p .0 cl)) (f r (s .wait r (p .1)))) (may-ask m);
+      wait = λ r m. ⊎-elim (λ p. absurd (c .not-prepared r p)) (λ p. ⊎-elim (λ w. w) (λ closes. absurd (p .0 closes)) (f r (s .wait r (p .1)))) (may-ask m);
       record-or-none = ⊎-elim (λ p. inl (p .0, e ∙ p .1, g (p .2), λ y m. k (y .number) (p .3 y m))) (λ p. inr (e ∙ p .0, d (p .1))) (s .record-or-none);
     }
 
-    gone-shape : {v : View} → Doom → l′ ≡ l → Gone v → (New t Committed ms → ⊥) → Shape′ v
-    gone-shape z e g-out nc = record { not-open = λ rs p. absurd (not-none (sym (e ∙ z .log-none) ∙ p)); no-ask = λ c. absurd (no-committed′ nc (z .no-committed) c) }
-      where
-        not-none : {rs : List Entry} → none ≡ open-with rs → ⊥
-        not-none p = let z : _≡_ {A = ℕ} 0 1 = cc in omega arith
-    gone-shape z e g-aborting nc = record { log-none = e ∙ z .log-none; begun = List·Memᴰ·tail (z .begun); no-committed = no-committed′ nc (z .no-committed) }
+    gone-shape : {v : View} → Doom → log′ ≡ log → Gone v → (New t Committed ms → ⊥) → Shape′ v
+    gone-shape z e to-out no-commit = record { not-open = λ rs p. none-not-open (e ∙ z .log-none) rs p; no-ask = λ c. absurd (no-committed′ no-commit (z .no-committed) c) }
+    gone-shape z e to-aborting no-commit = record { log-none = e ∙ z .log-none; begun = List·Memᴰ·tail (z .begun); no-committed = no-committed′ no-commit (z .no-committed) }
 
     -- out with nobody to ask
-    out-shape : ((rs : List Entry) → l′ ≡ open-with rs → ⊥) → NoAsk t (x ∷ h) → Shape′ out
+    out-shape : ((rs : List Entry) → log′ ≡ open-with rs → ⊥) → NoAsk t (x ∷ h) → Shape′ out
     out-shape f g = record { not-open = f; no-ask = λ _. g }
 
-    none-not-open : l′ ≡ none → (rs : List Entry) → l′ ≡ open-with rs → ⊥
-    none-not-open e rs p = let z : _≡_ {A = ℕ} 0 1 = cc in omega arith
-
-    closed-not-open : l′ ≡ closed → (rs : List Entry) → l′ ≡ open-with rs → ⊥
-    closed-not-open e rs p = let z : _≡_ {A = ℕ} 0 1 = cc in omega arith
-
-    pub stay-shape : (v : View) → l′ ≡ l → Calm x → Quiet ms → Shape t v l h wa se is → Shape′ v
+    pub stay-shape : (v : View) → log′ ≡ log → Calm x → Quiet ms → Shape t v log h waiting sent issued → Shape′ v
     stay-shape out e c q s = record {
       not-open = λ rs p. s .not-open rs (sym e ∙ p);
       no-ask = λ a. no-ask-calm (c .not-prepared) (s .no-ask (⊎-elim (λ m. absurd (q .no-committed m)) (λ y. y) (committed-cases a)));
@@ -477,27 +461,27 @@ module _ (t : Id) where
     stay-shape (committing es) e c q s = told-shape s e c (q .no-aborted) (λ r w. inl w) (λ w. w) (λ w. w) (λ n w. w)
     stay-shape aborting e c q s = record { log-none = e ∙ s .log-none; begun = List·Memᴰ·tail (s .begun); no-committed = no-committed′ (q .no-committed) (s .no-committed) }
 
-    pub keep-shape : {v v′ : View} → Old → Shape t v l h wa se is → Move h x ms l l′ v v′ → Shape′ v′
+    pub keep-shape : {v v′ : View} → Old → Shape t v log h waiting sent issued → Move h x ms log log′ v v′ → Shape′ v′
     keep-shape b s (stay {v} e c q) = stay-shape v e c q s
-    keep-shape b s (begin e nb xe q) = record {
+    keep-shape b s (begin e not-begun noted q) = record {
       undecided = record {
-        log-none = e ∙ fresh l (b .begun-log);
-        begun = List·Memᴰ·head (sym xe);
-        no-committed = no-committed′ (q .no-committed) (λ c. nb (b .begun-committed c));
-        no-aborted = no-aborted′ (q .no-aborted) (λ c. nb (b .begun-aborted c));
+        log-none = e ∙ fresh log (b .begun-log);
+        begun = List·Memᴰ·head (sym noted);
+        no-committed = no-committed′ (q .no-committed) (λ c. not-begun (b .begun-committed c));
+        no-aborted = no-aborted′ (q .no-aborted) (λ c. not-begun (b .begun-aborted c));
       };
-      no-ask = λ r m. nb (b .begun-ask r (ask-calm (not-begun-enlisted xe .not-prepared) m));
-      held = λ n r k i m. absurd (nb (b .begun-enlisted n r k (old (not-begun-enlisted xe .not-enlisted) i)));
+      no-ask = λ r m. not-begun (b .begun-ask r (ask-calm (calm-note x (ap isCalm noted) .not-prepared) m));
+      held = λ n r k i m. absurd (not-begun (b .begun-enlisted n r k (old (calm-note x (ap isCalm noted) .not-enlisted) i)));
     }
       where
         fresh : (s : Story) → (Logged s → Begun t h) → s ≡ none
         fresh none f = refl
-        fresh (open-with rs) f = absurd (nb (f tt))
-        fresh closed f = absurd (nb (f tt))
-        fresh bad f = absurd (nb (f tt))
-    keep-shape b s (gather e np q f g) = record {
+        fresh (open-with rs) f = absurd (not-begun (f tt))
+        fresh closed f = absurd (not-begun (f tt))
+        fresh bad f = absurd (not-begun (f tt))
+    keep-shape b s (gather e not-prepared q f g) = record {
       undecided = undecided-next (s .undecided) e q;
-      no-ask = no-ask-calm np (s .no-ask);
+      no-ask = no-ask-calm not-prepared (s .no-ask);
       held = λ n r k i m. ⊎-elim (λ p. g n r k (sym p) m) (λ o. f n (s .held n r k o m)) (List·Memᴰ·cases-cons i);
     }
     keep-shape b s (prepare e c q f) = record {
@@ -510,38 +494,38 @@ module _ (t : Id) where
       no-ask = no-ask-calm (c .not-prepared) (s .no-ask);
       number = n₀;
       numbers = g;
-      only = λ n r k i mk. f n (s .held n r k (old (c .not-enlisted) i) mk);
-      asked = Memᴰ·append-left is m;
+      only = λ n r k i votes. f n (s .held n r k (old (c .not-enlisted) i) votes);
+      asked = Memᴰ·append-left issued m;
     }
-    keep-shape b s (commit-empty e c na f) = out-shape (none-not-open (e ∙ s .undecided .log-none)) (no-ask-calm (c .not-prepared) (s .no-ask))
-    keep-shape b s (vote-on e q ne f g p) = record {
+    keep-shape b s (commit-empty e c no-abort f) = out-shape (none-not-open (e ∙ s .undecided .log-none)) (no-ask-calm (c .not-prepared) (s .no-ask))
+    keep-shape b s (vote-on e q not-enlisted f g p) = record {
       undecided = undecided-next (s .undecided) e q;
-      held = λ n r k i m. ⊎-elim (λ v. inl (voted-more x v)) (λ w. ⊎-elim (λ v. inl (vote-of h v)) inr (f n w)) (s .held n r k (old ne i) m);
+      held = λ n r k i m. ⊎-elim (λ v. inl (voted-more x v)) (λ w. ⊎-elim (λ v. inl (vote-of h v)) inr (f n w)) (s .held n r k (old not-enlisted i) m);
       hopes = λ r m. ⊎-elim (g r) (p r) (hoping s r m);
     }
-    keep-shape b s (decide-logged {rs = rs} e ne na f g d n) = record {
+    keep-shape b s (decide-logged {rs = rs} e not-enlisted no-abort f g d n) = record {
       begun = List·Memᴰ·tail (s .undecided .begun);
-      no-aborted = no-aborted′ na (s .undecided .no-aborted);
-      good = inl (last-vote s ne f);
+      no-aborted = no-aborted′ no-abort (s .undecided .no-aborted);
+      good = inl (last-vote s not-enlisted f);
       wait = λ r m. g r (hoping s r m) .0;
       record-or-none = inl (rs, e, d, n);
     }
-    keep-shape b s (decide-unlogged e ne na f g d) = record {
+    keep-shape b s (decide-unlogged e not-enlisted no-abort f g d) = record {
       begun = List·Memᴰ·tail (s .undecided .begun);
-      no-aborted = no-aborted′ na (s .undecided .no-aborted);
-      good = inl (last-vote s ne f);
+      no-aborted = no-aborted′ no-abort (s .undecided .no-aborted);
+      good = inl (last-vote s not-enlisted f);
       wait = λ r m. absurd (g r (hoping s r m));
       record-or-none = inr (e ∙ s .undecided .log-none, d);
     }
-    keep-shape b s (decide-empty e ne na f g) = out-shape (none-not-open (e ∙ s .undecided .log-none)) (λ r m. g r (hoping s r m))
-    keep-shape b s (abort e d g nc) = gone-shape (doom d s) e g nc
-    keep-shape b s (replied e xe w na) = out-shape (none-not-open (e ∙ s .undecided .log-none)) (no-ask-calm (replied-calm xe .not-prepared) (s .no-ask))
-    keep-shape b s (told-on e c na f g d n) = told-shape s e c na f g d n
+    keep-shape b s (decide-empty e not-enlisted no-abort f g) = out-shape (none-not-open (e ∙ s .undecided .log-none)) (λ r m. g r (hoping s r m))
+    keep-shape b s (abort e d g no-commit) = gone-shape (doom d s) e g no-commit
+    keep-shape b s (replied e noted w no-abort) = out-shape (none-not-open (e ∙ s .undecided .log-none)) (no-ask-calm (calm-note x (ap isCalm noted) .not-prepared) (s .no-ask))
+    keep-shape b s (told-on e c no-abort f g d n) = told-shape s e c no-abort f g d n
     keep-shape b s (end-logged e c q f) = out-shape (closed-not-open e) (close-all c (s .wait) f)
     keep-shape b s (end-unlogged e c q d) = out-shape
         (λ rs p. ⊎-elim (λ o. d (o .2 .it) (o .2 .there) (o .2 .holds)) (λ o. none-not-open (e ∙ o .0) rs p) (s .record-or-none))
         (no-ask-calm (c .not-prepared) (no-durable-ask (s .wait) d))
-    keep-shape b s (answer-out r e m c nc) = record {
+    keep-shape b s (answer-out r e m c no-commit) = record {
       not-open = λ rs p. s .not-open rs (sym e ∙ p);
-      no-ask = λ a. absurd (no-committed′ nc (λ y. s .no-ask y r m) a);
+      no-ask = λ a. absurd (no-committed′ no-commit (λ y. s .no-ask y r m) a);
     }

@@ -1,4 +1,5 @@
--- The open transactions of a log that is not damaged: what the judgements at each record say of them together.
+-- The open transactions of a log that is not damaged. Each record is judged with those that are open before it: so that what is said of one record becomes true
+-- of all that are open together, and a forget record takes nothing from it.
 use Prim.Native.Nat.{ℕ, _+_, _≤_, _<_}
 use native.Mathlib.Omega.{arith}
 use mathlib.Core.Path.{_≡_, refl, sym, _∙_, ap}

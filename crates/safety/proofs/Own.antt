@@ -1,5 +1,5 @@
--- What is shown of what an event does: it is a move of its own transaction, and leaves every other one alone. Here of the parts that
--- the events share: abort, decide, the end, start of phase one.
+-- An event changes the state of one transaction and of what it holds: so it is a move of that one, and leaves every other one alone, of which neither place nor
+-- record changes. Here of the parts that the events share: abort, decide, the end, start of phase one.
 use Prim.Native.Nat.{ℕ, _+_, _*_, _-_, _≤_, _<_}
 use native.Mathlib.Omega.{arith}
 use mathlib.Core.Path.{_≡_, refl, sym, _∙_, ap, ap₂}
@@ -40,7 +40,7 @@ use Rattle.safety.specs.World.{Note, noteOf, messageOf, subjectOf}
 use Rattle.safety.specs.Host.{Prepares, Closes, careful, Makes}
 use Rattle.safety.proofs.Alone as alone
 use Rattle.safety.proofs.Alone.{Story, closed, early, voting, aborting, Hopes, Waits, Unasked, Preparing, NoDurable, managersOf, Entered, New}
-use Rattle.safety.proofs.Move.{Calm, NotEnlisted, VoteOf, Doomed, d-voting, d-aborting, g-out, g-aborting, Move, prepare, ask-one, commit-empty, decide-logged, decide-unlogged, decide-empty, abort, told-on, end-logged, end-unlogged}
+use Rattle.safety.proofs.Move.{Calm, NotEnlisted, VoteOf, Doomed, from-voting, from-aborting, to-out, to-aborting, Move, prepare, ask-one, commit-empty, decide-logged, decide-unlogged, decide-empty, abort, told-on, end-logged, end-unlogged}
 use Rattle.safety.proofs.Top.{Agrees}
 use Rattle.safety.proofs.Story.{next, story, onForget, mine, Tells}
 use Rattle.safety.proofs.View.{viewOf, look, view-stands, view-goes, goes-other, view-ends, ends-other, view-more, stands-held}
@@ -64,6 +64,22 @@ pub record Own (tb : Table) (e : Event) (log : List ℕ) (t : Id) (o : Outcome) 
   pub addressed : Addressed tb e (o .signals)
   pub move : (h : List Note) → Makes careful h e → (l : Story) → Agrees (viewOf t tb) l
       → Move t h (noteOf tb e) (map (messageOf tb e) (o .signals)) l (story t l records) (viewOf t tb) (viewOf t (o .table))
+
+-- an outcome that writes nothing
+pub unwritten : (tb : Table) (e : Event) (log : List ℕ) (t : Id) (tb₂ : Table) (ss : List Signal) → Addressed tb e ss → tb₂ .used ≡ tb .used → ((u : Id) → (u ≡ t → ⊥) → viewOf u tb₂ ≡ viewOf u tb)
+    → ((h : List Note) → Makes careful h e → (l : Story) → Agrees (viewOf t tb) l → Move t h (noteOf tb e) (map (messageOf tb e) ss) l l (viewOf t tb) (viewOf t tb₂))
+    → Own tb e log t (record { table = tb₂; log = log; signals = ss })
+unfolding story allBytes
+unwritten tb e log t tb₂ ss addressed same-used others move = record {
+  records = [];
+  valid = each-nothing Valid;
+  bytes = rw same-used (sym (append-nil (take (tb .used) log)));
+  other-story = λ u d s. refl;
+  other-view = others;
+  judged = judged-nothing tb log (tb₂ .used) same-used;
+  addressed = addressed;
+  move = move;
+}
 
 -- ── ends of which no record is written ──────────────────────────────────────────────────────────────────────────
 
@@ -99,8 +115,8 @@ module _ (tb : Table) (e : Event) (log : List ℕ) (t : Id) (p : ℕ) (tb₁ : T
   abbrev pub hs₁ : List Enlistment
   hs₁ = held p tb₁
 
-  abbrev O : Outcome → Type 0
-  O = Own tb e log t
+  abbrev Here : Outcome → Type 0
+  Here = Own tb e log t
 
   abbrev Moves : List Signal → Table → Type 0
   Moves ss tb₂ = (h : List Note) → Makes careful h e → (l : Story) → Agrees (viewOf t tb) l → Move t h (noteOf tb e) (map (messageOf tb e) ss) l l (viewOf t tb) (viewOf t tb₂)
@@ -108,24 +124,9 @@ module _ (tb : Table) (e : Event) (log : List ℕ) (t : Id) (p : ℕ) (tb₁ : T
   home : Each (λ x. Owned tb (subjectOf tb e) (x .number)) hs₁
   home x m = rw about (z .owned x m)
 
-  nothing-added : take (tb .used) log ≡ take (tb .used) log ++ allBytes []
-  unfolding allBytes
-  nothing-added = sym (append-nil (take (tb .used) log))
-
-  -- an outcome that writes nothing
   pub unlogged : (tb₂ : Table) (ss : List Signal) → Addressed tb e ss → tb₂ .used ≡ tb₁ .used → ((u : Id) → (u ≡ t → ⊥) → viewOf u tb₂ ≡ viewOf u tb₁) → Moves ss tb₂
       → Own tb e log t (record { table = tb₂; log = log; signals = ss })
-  unfolding story
-  unlogged tb₂ ss ad us ov mv = record {
-    records = [];
-    valid = each-nothing Valid;
-    bytes = rw (us ∙ z .used) nothing-added;
-    other-story = λ u d s. refl;
-    other-view = λ u d. ov u d ∙ z .other-view u d;
-    judged = judged-nothing tb log (tb₂ .used) (us ∙ z .used);
-    addressed = ad;
-    move = mv;
-  }
+  unlogged tb₂ ss addressed same-used others move = unwritten tb e log t tb₂ ss addressed (same-used ∙ z .used) (λ u d. others u d ∙ z .other-view u d) move
 
   -- ── abort ─────────────────────────────────────────────────────────────────────────────────────────────────────
 
@@ -133,14 +134,14 @@ module _ (tb : Table) (e : Event) (log : List ℕ) (t : Id) (p : ℕ) (tb₁ : T
   unfolding abortedOf
   keeps-aborted x = by-test (hearsAbort x) (λ b. rw b (inl refl)) (λ b. by-test (isIn enlistment.preparedLost x) (λ c. rw (b, c) (inl refl)) (λ c. rw (b, c) (inl refl)))
 
-  pub own-abort : Doomed t (viewOf t tb) → O (abortOf p tb₁ log)
+  pub own-abort : Doomed t (viewOf t tb) → Here (abortOf p tb₁ log)
   unfolding abortOf endIfDone
   own-abort d = rw (unlogged-end p tb₂ log (λ q. six-five (sym (state-goes t p transaction.aborting (changeHeld p abortedOf tb₁) (stands-held t p p abortedOf tb₁ (z .stands))) ∙ q)))
-      (by-cases (λ o. O (saying ss o)) (all isDone (held p tb₂)) (quietly (emptied p tb₂) log) (quietly tb₂ log)
+      (by-cases (λ o. Here (saying ss o)) (all isDone (held p tb₂)) (quietly (emptied p tb₂) log) (quietly tb₂ log)
       (λ _. unlogged (emptied p tb₂) ss addressed (used-emptied p tb₂ ∙ used-goes p transaction.aborting abortedOf tb₁) (λ u n. ends-for t p tb₂ at u n ∙ others u n)
-      (λ h f l a. rw (view-ends t p tb₂ at) (abort refl d g-out silent)))
+      (λ h f l a. rw (view-ends t p tb₂ at) (abort refl d to-out silent)))
       (λ _. unlogged tb₂ ss addressed (used-goes p transaction.aborting abortedOf tb₁) others
-      (λ h f l a. rw (view-goes t p tb₁ (z .stands) transaction.aborting abortedOf (λ q. omega arith)) (abort refl d g-aborting silent))))
+      (λ h f l a. rw (view-goes t p tb₁ (z .stands) transaction.aborting abortedOf (λ q. omega arith)) (abort refl d to-aborting silent))))
     where
       tb₂ : Table
       tb₂ = goTo p transaction.aborting (changeHeld p abortedOf tb₁)
@@ -229,24 +230,24 @@ module _ (tb : Table) (e : Event) (log : List ℕ) (t : Id) (p : ℕ) (tb₁ : T
   own-id : idAt p tb₁ ≡ t
   own-id = named-is t (transactionAt p tb₁) (z .stands .here) .1
 
-  module _ (hs : List Enlistment) (isv : viewOf t tb ≡ voting hs) (id-size : length t ≡ identifierSize) (v : Voted hs (noteOf tb e)) (last : any (isIn enlistment.preparing) hs₁ ≡ false) where
+  module _ (hs : List Enlistment) (shown : viewOf t tb ≡ voting hs) (id-size : length t ≡ identifierSize) (v : Voted hs (noteOf tb e)) (last : any (isIn enlistment.preparing) hs₁ ≡ false) where
     all-voted : (n : ℕ) → Some (Preparing n) hs → VoteOf t n (noteOf tb e)
     all-voted n h = by-either (λ y. y) (λ w. no-clash (isIn enlistment.preparing (w .it)) (eq-eqb (w .it .state) enlistment.preparing (w .holds .1)) (none-each (isIn enlistment.preparing) hs₁ last (w .it) (w .there))) (v .preparing n h)
 
     hoping : (r : Id) → Some (Hopes r) hs ⊎ Prepares t r (noteOf tb e) → Some (Hopes r) hs₁
     hoping r = by-either (v .hopes r) (v .prepares r)
 
-    decide-none : (stateAt p tb₁ ≡ transaction.committing → ⊥) → eqb (length hs₁) 0 ≡ true → O (endCommitted p tb₁ log)
+    decide-none : (stateAt p tb₁ ≡ transaction.committing → ⊥) → eqb (length hs₁) 0 ≡ true → Here (endCommitted p tb₁ log)
     unfolding endCommitted
-    decide-none nc nil = rw (unlogged-end p tb₁ log nc) (unlogged (emptied p tb₁) (toApp name.AppCommitted) (addressed-one tb e name.AppCommitted 0 (inl refl)) (used-emptied p tb₁) (ends-for t p tb₁ (z .stands))
-        (λ h f l a. rw (isv, view-ends t p tb₁ (z .stands)) (decide-empty refl (v .calm) (none-aborted t tb e (toApp name.AppCommitted) (only-one notAborted name.AppCommitted 0 refl)) all-voted (λ r w. empty-some hs₁ (Hopes r) nil (hoping r w)))))
+    decide-none not-committing empty = rw (unlogged-end p tb₁ log not-committing) (unlogged (emptied p tb₁) (toApp name.AppCommitted) (addressed-one tb e name.AppCommitted 0 (inl refl)) (used-emptied p tb₁) (ends-for t p tb₁ (z .stands))
+        (λ h f l a. rw (shown, view-ends t p tb₁ (z .stands)) (decide-empty refl (v .calm) (none-aborted t tb e (toApp name.AppCommitted) (only-one notAborted name.AppCommitted 0 refl)) all-voted (λ r w. empty-some hs₁ (Hopes r) empty (hoping r w)))))
 
-    decide-volatile : any isDurable hs₁ ≡ false → O (saying (commitSignals hs₁) (quietly (committing p tb₁) log))
-    decide-volatile nd = unlogged (committing p tb₁) (commitSignals hs₁) commit-home (used-goes p transaction.committing committedOf tb₁) (λ u n. goes-other t p tb₁ (z .stands) transaction.committing committedOf u keeps-committed n)
-        (λ h f l a. rw (isv, view-goes t p tb₁ (z .stands) transaction.committing committedOf (λ q. omega arith))
+    decide-volatile : any isDurable hs₁ ≡ false → Here (saying (commitSignals hs₁) (quietly (committing p tb₁) log))
+    decide-volatile no-durable = unlogged (committing p tb₁) (commitSignals hs₁) commit-home (used-goes p transaction.committing committedOf tb₁) (λ u n. goes-other t p tb₁ (z .stands) transaction.committing committedOf u keeps-committed n)
+        (λ h f l a. rw (shown, view-goes t p tb₁ (z .stands) transaction.committing committedOf (λ q. omega arith))
         (decide-unlogged refl (v .calm) (none-aborted t tb e (commitSignals hs₁) commit-not-aborted) all-voted
-        (λ r w. let y : Some (Hopes r) hs₁ = hoping r w in no-durable-of hs₁ nd (y .it) (y .there) (y .holds .0))
-        (λ x m k. let c : Some (λ y. x ≡ committedOf y) hs₁ = held-came p committedOf tb₁ m in no-durable-of hs₁ nd (c .it) (c .there) (sym (committed-kept (c .it) .1) ∙ sym (ap (λ (y : Enlistment). y .kind) (c .holds)) ∙ k))))
+        (λ r w. let y : Some (Hopes r) hs₁ = hoping r w in no-durable-of hs₁ no-durable (y .it) (y .there) (y .holds .0))
+        (λ x m k. let c : Some (λ y. x ≡ committedOf y) hs₁ = held-came p committedOf tb₁ m in no-durable-of hs₁ no-durable (c .it) (c .there) (sym (committed-kept (c .it) .1) ∙ sym (ap (λ (y : Enlistment). y .kind) (c .holds)) ∙ k))))
 
     module _ (d : any isDurable hs₁ ≡ true) (fits : tb₁ .used + commitSize (length (filter isDurable hs₁)) + forgetSize * (1 + openCount tb₁) ≤ length log) where
       ds : List Enlistment
@@ -291,7 +292,7 @@ module _ (tb : Table) (e : Event) (log : List ℕ) (t : Id) (p : ℕ) (tb₁ : T
       size = rw (length-append t (entriesBytes entries), id-size, entries-size entries entries-ok, as-many) (omega arith)
 
       undecided : stateAt p tb ≡ transaction.committing → ⊥
-      undecided q = let c : look (stateAt p tb) (held p tb) ≡ voting hs = sym (view-stands t p tb (z .before)) ∙ isv in never (ap (λ k. look k (held p tb)) (sym q) ∙ c)
+      undecided q = let c : look (stateAt p tb) (held p tb) ≡ voting hs = sym (view-stands t p tb (z .before)) ∙ shown in never (ap (λ k. look k (held p tb)) (sym q) ∙ c)
         where
           never : alone.committing (held p tb) ≡ voting hs → ⊥
           never c = let z : _≡_ {A = ℕ} 0 1 = cc in omega arith
@@ -301,7 +302,7 @@ module _ (tb : Table) (e : Event) (log : List ℕ) (t : Id) (p : ℕ) (tb₁ : T
       commit-judged = record { judged = λ os r. (rw (fits-commit os t entries (fit os r)) refl, room os r) }
         where
           closed-to : (os : List Open) → Ready tb log os → any (isOpenAs t) os ≡ false
-          closed-to os r = mine-none t os (go (r .storied t) (rw isv at (r .agrees t)) (r .tells t))
+          closed-to os r = mine-none t os (go (r .storied t) (rw shown at (r .agrees t)) (r .tells t))
             where
               go : (s : Story) → s ≡ alone.none → Tells t s os → mine t os ≡ []
               go s e h = rw e at h
@@ -318,7 +319,7 @@ module _ (tb : Table) (e : Event) (log : List ℕ) (t : Id) (p : ℕ) (tb₁ : T
           room : (os : List Open) → Ready tb log os → committing p tb₁ .used + length (recordBytes (Record.commit t entries)) + recordSize * length (os ++ (record { id = t; entries = entries } ∷ [])) ≤ length log
           room os r = rw (used-goes p transaction.committing committedOf tb₁, size, length-append os (record { id = t; entries = entries } ∷ [])) (omega (arith, fits, known os r))
 
-      decide-durable : O (saying (commitSignals hs₁) (append (commitRecord (idAt p tb₁) hs₁) (committing p tb₁) log))
+      decide-durable : Here (saying (commitSignals hs₁) (append (commitRecord (idAt p tb₁) hs₁) (committing p tb₁) log))
       unfolding append commitRecord useMore story next allBytes entries ds
       decide-durable = rw own-id (record {
         records = Record.commit t entries ∷ [];
@@ -328,8 +329,8 @@ module _ (tb : Table) (e : Event) (log : List ℕ) (t : Id) (p : ℕ) (tb₁ : T
         other-view = λ u n. view-more u (length bs) (committing p tb₁) ∙ goes-other t p tb₁ (z .stands) transaction.committing committedOf u keeps-committed n ∙ z .other-view u n;
         judged = commit-judged;
         addressed = commit-home;
-        move = λ h f l a. rw (isv, view-more t (length bs) (committing p tb₁) ∙ view-goes t p tb₁ (z .stands) transaction.committing committedOf (λ q. omega arith))
-            (decide-logged {rs = entries} (rw (same-refl t, rw isv at a) refl) (v .calm) (none-aborted t tb e (commitSignals hs₁) commit-not-aborted) all-voted
+        move = λ h f l a. rw (shown, view-more t (length bs) (committing p tb₁) ∙ view-goes t p tb₁ (z .stands) transaction.committing committedOf (λ q. omega arith))
+            (decide-logged {rs = entries} (rw (same-refl t, rw shown at a) refl) (v .calm) (none-aborted t tb e (commitSignals hs₁) commit-not-aborted) all-voted
             (λ q w. (held-own (Hopes q) (Waits q) p committedOf tb₁ (λ x _ y. (commit-waits q x y, committed-kept x .0)) (hoping q w), listed q (hoping q w)))
             (held-own Durable Durable p committedOf tb₁ (λ x _ k. (committed-kept x .1 ∙ k, committed-kept x .0)) durables)
             entered);
@@ -342,21 +343,21 @@ module _ (tb : Table) (e : Event) (log : List ℕ) (t : Id) (p : ℕ) (tb₁ : T
     unfolding lacksRoom
     roomy full n e low = rw full (omega (arith, ltb-false (tb₁ .capacity - tb₁ .used) (commitSize n + forgetSize * (1 + openCount tb₁)) e))
 
-    pub own-decide : length log ≡ tb₁ .capacity → tb₁ .used ≤ tb₁ .capacity → (stateAt p tb₁ ≡ transaction.committing → ⊥) → O (decideOf p tb₁ log)
+    pub own-decide : length log ≡ tb₁ .capacity → tb₁ .used ≤ tb₁ .capacity → (stateAt p tb₁ ≡ transaction.committing → ⊥) → Here (decideOf p tb₁ log)
     unfolding decideOf
-    own-decide full low nc = by-cases O (eqb (length hs₁) 0) _ _ (decide-none nc) (λ _. by-cases O (none isDurable hs₁) _ _ (λ n. decide-volatile (not-true (any isDurable hs₁) n)) (λ d.
-        by-cases O (lacksRoom (length (filter isDurable hs₁)) tb₁) _ _ (λ _. own-abort (rw isv d-voting))
+    own-decide full low not-committing = by-cases Here (eqb (length hs₁) 0) _ _ (decide-none not-committing) (λ _. by-cases Here (none isDurable hs₁) _ _ (λ n. decide-volatile (not-true (any isDurable hs₁) n)) (λ d.
+        by-cases Here (lacksRoom (length (filter isDurable hs₁)) tb₁) _ _ (λ _. own-abort (rw shown from-voting))
         (λ r. decide-durable (not-false (any isDurable hs₁) d) (roomy full (length (filter isDurable hs₁)) r low))))
 
   -- ── the end ───────────────────────────────────────────────────────────────────────────────────────────────────
 
   -- after an abort nothing is written
-  pub own-end-aborting : viewOf t tb ≡ aborting → stateAt p tb₁ ≡ transaction.aborting → viewOf t tb₁ ≡ aborting → O (endIfDone p tb₁ log)
+  pub own-end-aborting : viewOf t tb ≡ aborting → stateAt p tb₁ ≡ transaction.aborting → viewOf t tb₁ ≡ aborting → Here (endIfDone p tb₁ log)
   unfolding endIfDone
-  own-end-aborting isv st isv₁ = rw (unlogged-end p tb₁ log (λ q. omega (arith, st, q))) (by-cases O (all isDone hs₁) (quietly (emptied p tb₁) log) (quietly tb₁ log)
+  own-end-aborting shown state shown-after = rw (unlogged-end p tb₁ log (λ q. omega (arith, state, q))) (by-cases Here (all isDone hs₁) (quietly (emptied p tb₁) log) (quietly tb₁ log)
       (λ _. unlogged (emptied p tb₁) [] (addressed-nothing tb e) (used-emptied p tb₁) (ends-for t p tb₁ (z .stands))
-      (λ h f l a. rw (isv, view-ends t p tb₁ (z .stands)) (abort refl d-aborting g-out (none-committed t tb e [] (only-nothing notCommitted)))))
-      (λ _. unlogged tb₁ [] (addressed-nothing tb e) refl (λ u n. refl) (λ h f l a. rw (isv, isv₁) (abort refl d-aborting g-aborting (none-committed t tb e [] (only-nothing notCommitted))))))
+      (λ h f l a. rw (shown, view-ends t p tb₁ (z .stands)) (abort refl from-aborting to-out (none-committed t tb e [] (only-nothing notCommitted)))))
+      (λ _. unlogged tb₁ [] (addressed-nothing tb e) refl (λ u n. refl) (λ h f l a. rw (shown, shown-after) (abort refl from-aborting to-aborting (none-committed t tb e [] (only-nothing notCommitted))))))
 
   -- what an event after the decision to commit has done
   pub record Told (hs : List Enlistment) (x : Note) : Type 0 where
@@ -366,13 +367,13 @@ module _ (tb : Table) (e : Event) (log : List ℕ) (t : Id) (p : ℕ) (tb₁ : T
     pub no-durable : NoDurable hs → NoDurable hs₁
     pub numbers : (n : ℕ) → Some (λ y. y .number ≡ n) hs → Some (λ y. y .number ≡ n) hs₁
 
-  module _ (hs : List Enlistment) (isv : viewOf t tb ≡ alone.committing hs) (st : stateAt p tb₁ ≡ transaction.committing) (w : Told hs (noteOf tb e)) (id-size : length t ≡ identifierSize) where
+  module _ (hs : List Enlistment) (shown : viewOf t tb ≡ alone.committing hs) (state : stateAt p tb₁ ≡ transaction.committing) (w : Told hs (noteOf tb e)) (id-size : length t ≡ identifierSize) where
     not-done : (r : Id) (x : Enlistment) → Waits r x → x .state ≡ enlistment.done → ⊥
     not-done r x q d = by-either (λ y. omega arith) (λ y. omega arith) (q .2)
 
     closing : all isDone hs₁ ≡ true → (r : Id) → Some (Waits r) hs₁ ⊎ Closes t r (noteOf tb e) → Closes t r (noteOf tb e)
-    closing dn r (inl y) = absurd (not-done r (y .it) (y .holds) (eqb-true (y .it .state) enlistment.done (all-each isDone hs₁ dn (y .it) (y .there))))
-    closing dn r (inr c) = c
+    closing all-done r (inl y) = absurd (not-done r (y .it) (y .holds) (eqb-true (y .it .state) enlistment.done (all-each isDone hs₁ all-done (y .it) (y .there))))
+    closing all-done r (inr c) = c
 
     closes : (l : Story) → Agrees (alone.committing hs) l → Some Durable hs₁ → onForget l ≡ closed
     closes l (inl (rs, q, y, n)) d = rw q refl
@@ -383,15 +384,15 @@ module _ (tb : Table) (e : Event) (log : List ℕ) (t : Id) (p : ℕ) (tb₁ : T
     forget-judged {used} d e = record { judged = λ os r. (rw (forget-fit t os (live-nonzero tb (r .sound) t p (z .before)) (opened os r)) refl, omega (arith, e, r .room, one-forgotten t os (opened os r))) }
       where
         opened : (os : List Open) → Ready tb log os → any (isOpenAs t) os ≡ true
-        opened os r = go (r .storied t) (rw isv at (r .agrees t)) (r .tells t)
+        opened os r = go (r .storied t) (rw shown at (r .agrees t)) (r .tells t)
           where
             go : (s : Story) → Agrees (alone.committing hs) s → Tells t s os → any (isOpenAs t) os ≡ true
             go s (inl (rs, q, y, n)) h = let k : Tells t (alone.open-with rs) os = rw q at h in mine-some t os (k .0) (k .1)
             go s (inr (q, y)) h = absurd (w .no-durable y (some-durable-of hs₁ d .it) (some-durable-of hs₁ d .there) (some-durable-of hs₁ d .holds))
 
-    end-durable : any isDurable hs₁ ≡ true → all isDone hs₁ ≡ true → tb₁ .used + forgetSize ≤ length log → O (append (Record.forget (idAt p tb₁)) (emptied p tb₁) log)
+    end-durable : any isDurable hs₁ ≡ true → all isDone hs₁ ≡ true → tb₁ .used + forgetSize ≤ length log → Here (append (Record.forget (idAt p tb₁)) (emptied p tb₁) log)
     unfolding append useMore story next allBytes recordBytes
-    end-durable d dn fits = rw own-id (record {
+    end-durable d all-done fits = rw own-id (record {
       records = Record.forget t ∷ [];
       valid = each-more (valid-forget id-size) (each-nothing Valid);
       bytes = ap (λ n. take (n + length bs) (written n bs log)) (used-emptied p tb₁) ∙ written-used (tb₁ .used) bs log (omega (arith, fits, size)) ∙ ap₂ (λ n l. take n log ++ l) (z .used) (sym (append-nil bs));
@@ -399,8 +400,8 @@ module _ (tb : Table) (e : Event) (log : List ℕ) (t : Id) (p : ℕ) (tb₁ : T
       other-view = λ u n. view-more u (length bs) (emptied p tb₁) ∙ ends-for t p tb₁ (z .stands) u n ∙ z .other-view u n;
       judged = forget-judged d (ap (λ n. n + length bs) (used-emptied p tb₁ ∙ z .used) ∙ ap (λ n. tb .used + n) size);
       addressed = addressed-nothing tb e;
-      move = λ h f l a. rw (same-refl t, isv, view-more t (length bs) (emptied p tb₁) ∙ view-ends t p tb₁ (z .stands))
-          (end-logged (closes l (rw isv at a) (some-durable-of hs₁ d)) (w .calm) (quiet t tb e [] (only-nothing notCommitted) (only-nothing notAborted)) (λ r y. closing dn r (w .waits r y)));
+      move = λ h f l a. rw (same-refl t, shown, view-more t (length bs) (emptied p tb₁) ∙ view-ends t p tb₁ (z .stands))
+          (end-logged (closes l (rw shown at a) (some-durable-of hs₁ d)) (w .calm) (quiet t tb e [] (only-nothing notCommitted) (only-nothing notAborted)) (λ r y. closing all-done r (w .waits r y)));
     })
       where
         bs : List ℕ
@@ -409,38 +410,38 @@ module _ (tb : Table) (e : Event) (log : List ℕ) (t : Id) (p : ℕ) (tb₁ : T
         size : length bs ≡ forgetSize
         size = rw id-size refl
 
-    end-volatile : any isDurable hs₁ ≡ false → O (quietly (emptied p tb₁) log)
+    end-volatile : any isDurable hs₁ ≡ false → Here (quietly (emptied p tb₁) log)
     end-volatile n = unlogged (emptied p tb₁) [] (addressed-nothing tb e) (used-emptied p tb₁) (ends-for t p tb₁ (z .stands))
-        (λ h f l a. rw (isv, view-ends t p tb₁ (z .stands)) (end-unlogged refl (w .calm) (quiet t tb e [] (only-nothing notCommitted) (only-nothing notAborted))
+        (λ h f l a. rw (shown, view-ends t p tb₁ (z .stands)) (end-unlogged refl (w .calm) (quiet t tb e [] (only-nothing notCommitted) (only-nothing notAborted))
         (λ x m k. let d : Some Durable hs₁ = w .durable (record { it = x; there = m; holds = k }) in no-durable-of hs₁ n (d .it) (d .there) (d .holds))))
 
-    end-waits : viewOf t tb₁ ≡ alone.committing hs₁ → O (quietly tb₁ log)
-    end-waits isv₁ = unlogged tb₁ [] (addressed-nothing tb e) refl (λ u n. refl)
-        (λ h f l a. rw (isv, isv₁) (told-on refl (w .calm) (none-aborted t tb e [] (only-nothing notAborted)) (w .waits) (w .durable) (w .no-durable) (w .numbers)))
+    end-waits : viewOf t tb₁ ≡ alone.committing hs₁ → Here (quietly tb₁ log)
+    end-waits shown-after = unlogged tb₁ [] (addressed-nothing tb e) refl (λ u n. refl)
+        (λ h f l a. rw (shown, shown-after) (told-on refl (w .calm) (none-aborted t tb e [] (only-nothing notAborted)) (w .waits) (w .durable) (w .no-durable) (w .numbers)))
 
-    pub own-end-committing : viewOf t tb₁ ≡ alone.committing hs₁ → (any isDurable hs₁ ≡ true → tb₁ .used + forgetSize ≤ length log) → O (endIfDone p tb₁ log)
+    pub own-end-committing : viewOf t tb₁ ≡ alone.committing hs₁ → (any isDurable hs₁ ≡ true → tb₁ .used + forgetSize ≤ length log) → Here (endIfDone p tb₁ log)
     unfolding endIfDone endOf
-    own-end-committing isv₁ fits = rw st (by-cases O (all isDone hs₁) _ _
-        (λ dn. by-cases O (any isDurable hs₁) _ _ (λ d. end-durable d dn (fits d)) end-volatile)
-        (λ _. end-waits isv₁))
+    own-end-committing shown-after fits = rw state (by-cases Here (all isDone hs₁) _ _
+        (λ all-done. by-cases Here (any isDurable hs₁) _ _ (λ d. end-durable d all-done (fits d)) end-volatile)
+        (λ _. end-waits shown-after))
 
   -- ── start of phase one ────────────────────────────────────────────────────────────────────────────────────────
 
   keeps-state : (s : ℕ) → Keeps (inState s)
   keeps-state s x = inl refl
 
-  module _ (hs : List Enlistment) (isv : viewOf t tb ≡ early hs) (calm : Calm t (noteOf tb e)) (unasked : (m : ℕ) → Some (Unasked m) hs → Some (Unasked m) hs₁) where
-    start-none : (stateAt p tb₁ ≡ transaction.committing → ⊥) → eqb (length hs₁) 0 ≡ true → O (endCommitted p tb₁ log)
+  module _ (hs : List Enlistment) (shown : viewOf t tb ≡ early hs) (calm : Calm t (noteOf tb e)) (unasked : (m : ℕ) → Some (Unasked m) hs → Some (Unasked m) hs₁) where
+    start-none : (stateAt p tb₁ ≡ transaction.committing → ⊥) → eqb (length hs₁) 0 ≡ true → Here (endCommitted p tb₁ log)
     unfolding endCommitted
-    start-none nc nil = rw (unlogged-end p tb₁ log nc) (unlogged (emptied p tb₁) (toApp name.AppCommitted) (addressed-one tb e name.AppCommitted 0 (inl refl)) (used-emptied p tb₁) (ends-for t p tb₁ (z .stands))
-        (λ h f l a. rw (isv, view-ends t p tb₁ (z .stands)) (commit-empty refl calm (none-aborted t tb e (toApp name.AppCommitted) (only-one notAborted name.AppCommitted 0 refl)) (λ m w. empty-some hs₁ (Unasked m) nil (unasked m w)))))
+    start-none not-committing empty = rw (unlogged-end p tb₁ log not-committing) (unlogged (emptied p tb₁) (toApp name.AppCommitted) (addressed-one tb e name.AppCommitted 0 (inl refl)) (used-emptied p tb₁) (ends-for t p tb₁ (z .stands))
+        (λ h f l a. rw (shown, view-ends t p tb₁ (z .stands)) (commit-empty refl calm (none-aborted t tb e (toApp name.AppCommitted) (only-one notAborted name.AppCommitted 0 refl)) (λ m w. empty-some hs₁ (Unasked m) empty (unasked m w)))))
 
-    start-one : (es : List Enlistment) → hs₁ ≡ es → eqb (length es) 1 ≡ true → O (saying (toEach name.Single hs₁) (quietly (goTo p transaction.singlePhase (changeHeld p (inState enlistment.onePhase) tb₁)) log))
+    start-one : (es : List Enlistment) → hs₁ ≡ es → eqb (length es) 1 ≡ true → Here (saying (toEach name.Single hs₁) (quietly (goTo p transaction.singlePhase (changeHeld p (inState enlistment.onePhase) tb₁)) log))
     unfolding messageOf toEach sortBy insertBy
     start-one [] q o = absurd (omega (arith, eqb-true 0 1 o))
     start-one (x ∷ y ∷ es) q o = absurd (omega (arith, eqb-true (length (x ∷ y ∷ es)) 1 o))
     start-one (x ∷ []) q o = unlogged (goTo p transaction.singlePhase (changeHeld p (inState enlistment.onePhase) tb₁)) (toEach name.Single hs₁) (addressed-each tb e name.Single hs₁ home) (used-goes p transaction.singlePhase (inState enlistment.onePhase) tb₁) (λ u n. goes-other t p tb₁ (z .stands) transaction.singlePhase (inState enlistment.onePhase) u (keeps-state enlistment.onePhase) n)
-        (λ h f l a. rw (isv, view-goes t p tb₁ (z .stands) transaction.singlePhase (inState enlistment.onePhase) (λ q. omega arith))
+        (λ h f l a. rw (shown, view-goes t p tb₁ (z .stands) transaction.singlePhase (inState enlistment.onePhase) (λ q. omega arith))
         (ask-one {n₀ = x .number} refl calm (quiet t tb e (toEach name.Single hs₁) (only-each notCommitted name.Single hs₁ refl) (only-each notAborted name.Single hs₁ refl))
         (λ m w. let y : Some (Unasked m) hs₁ = unasked m w in sym (y .holds .0) ∙ only (y .it) (y .there))
         (λ y m. let c : Some (λ w. y ≡ inState enlistment.onePhase w) hs₁ = held-came p (inState enlistment.onePhase) tb₁ m in ap (λ (y : Enlistment). y .number) (c .holds) ∙ only (c .it) (c .there))
@@ -455,13 +456,13 @@ module _ (tb : Table) (e : Event) (log : List ℕ) (t : Id) (p : ℕ) (tb₁ : T
         there : hs₁ ≡ x ∷ [] → record { about = t; name = name.Single; number = x .number } ∈ map (messageOf tb e) (toEach name.Single hs₁)
         there q = rw q (List·Memᴰ·head (λ i. record { about = mine i; name = name.Single; number = x .number }))
 
-    start-many : O (saying (toEach name.Prepare hs₁) (quietly (goTo p transaction.phaseOne (changeHeld p (inState enlistment.preparing) tb₁)) log))
+    start-many : Here (saying (toEach name.Prepare hs₁) (quietly (goTo p transaction.phaseOne (changeHeld p (inState enlistment.preparing) tb₁)) log))
     start-many = unlogged (goTo p transaction.phaseOne (changeHeld p (inState enlistment.preparing) tb₁)) (toEach name.Prepare hs₁) (addressed-each tb e name.Prepare hs₁ home) (used-goes p transaction.phaseOne (inState enlistment.preparing) tb₁) (λ u n. goes-other t p tb₁ (z .stands) transaction.phaseOne (inState enlistment.preparing) u (keeps-state enlistment.preparing) n)
-        (λ h f l a. rw (isv, view-goes t p tb₁ (z .stands) transaction.phaseOne (inState enlistment.preparing) (λ q. omega arith))
+        (λ h f l a. rw (shown, view-goes t p tb₁ (z .stands) transaction.phaseOne (inState enlistment.preparing) (λ q. omega arith))
         (prepare refl calm (quiet t tb e (toEach name.Prepare hs₁) (only-each notCommitted name.Prepare hs₁ refl) (only-each notAborted name.Prepare hs₁ refl))
         (λ m w. held-own (Unasked m) (Preparing m) p (inState enlistment.preparing) tb₁ (λ x _ u. ((u .0, refl), refl)) (unasked m w))))
 
-    pub own-start : (stateAt p tb₁ ≡ transaction.committing → ⊥) → O (startPhaseOne p tb₁ log)
+    pub own-start : (stateAt p tb₁ ≡ transaction.committing → ⊥) → Here (startPhaseOne p tb₁ log)
     unfolding startPhaseOne
-    own-start nc = by-cases O (eqb (length hs₁) 0) _ _ (start-none nc) (λ _. by-cases O (eqb (length hs₁) 1 && all isMarked hs₁) _ _
+    own-start not-committing = by-cases Here (eqb (length hs₁) 0) _ _ (start-none not-committing) (λ _. by-cases Here (eqb (length hs₁) 1 && all isMarked hs₁) _ _
         (λ o. start-one hs₁ refl (true-and (eqb (length hs₁) 1) (all isMarked hs₁) o .0)) (λ _. start-many))

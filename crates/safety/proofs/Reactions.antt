@@ -1,4 +1,5 @@
--- The events about one enlistment: what each reaction is to the transaction that holds it.
+-- The events about one enlistment. Its state tells that of its transaction, since the table is sound; and then what becomes of the enlistment, and what follows, is
+-- one of that transaction's moves.
 use Prim.Native.Nat.{ℕ, _+_, _≤_}
 use native.Mathlib.Omega.{arith}
 use native.Mathlib.Decide.{ℕ-discrete}
@@ -48,7 +49,7 @@ use Rattle.safety.specs.Host.{Prepares, Closes}
 use Rattle.safety.specs.Demand3.{Votes, Yes}
 use Rattle.safety.proofs.Alone as alone
 use Rattle.safety.proofs.Alone.{Story, Hopes, Waits, Unasked, Preparing, NoDurable}
-use Rattle.safety.proofs.Move.{Calm, NotEnlisted, VoteOf, Doomed, d-early, d-voting, d-single, g-out, Move, gather, vote-on, abort, replied, told-on}
+use Rattle.safety.proofs.Move.{Calm, calm-note, nothing-calm, NotEnlisted, VoteOf, Doomed, from-early, from-voting, from-single, to-out, Move, gather, vote-on, abort, replied, told-on}
 use Rattle.safety.proofs.Top.{Agrees}
 use Rattle.safety.proofs.View.{viewOf, look, view-stands, view-changes, view-held-other, view-ends, state-held, stands-held}
 use Rattle.safety.proofs.Given.{id-size, owner-held, Row, in-active, in-zero, in-voting, in-single, in-commit, in-abort, Named}
@@ -112,15 +113,6 @@ module _ (s : ℕ) (x : Enlistment) where
   of-abort (in-commit q w) i = absurd (by-either (λ y. omega arith) (λ y. by-either (λ v. omega arith) (λ v. omega arith) y) w)
   of-abort (in-abort q w) i = q
 
-pub nothing-calm : (t : Id) → Calm t Note.nothing
-nothing-calm t = record { not-enlisted = λ n r k q. no₁ n r k q; not-prepared = λ r q. no₂ r (q .0) (q .1) }
-  where
-    no₁ : (m : ℕ) (r : Id) (k : ℕ) → Note.nothing ≡ Note.enlisted t m r k → ⊥
-    no₁ m r k q = let z : _≡_ {A = ℕ} 0 1 = cc in omega arith
-
-    no₂ : (r : Id) (m : ℕ) → Note.nothing ≡ Note.voted t m r kind.durable vote.Prepared → ⊥
-    no₂ r m q = let z : _≡_ {A = ℕ} 0 1 = cc in omega arith
-
 -- ── the table as it was given ───────────────────────────────────────────────────────────────────────────────────
 
 module _ (tb : Table) (s : Sound tb) (t : Id) (p : ℕ) (at : Stands t p tb) where
@@ -171,14 +163,14 @@ module _ (tb : Table) (s : Sound tb) (t : Id) (p : ℕ) (at : Stands t p tb) whe
   -- where it is open, there is room for its forget record
   pub room-open : (log : List ℕ) → length log ≡ tb .capacity → stateAt p tb ≡ transaction.committing → Some Durable (held p tb) → tb .used + forgetSize ≤ length log
   unfolding openPlaces
-  room-open log full st d = rw full (omega (arith, s .room, positive (openPlaces tb) (in-places (λ q x. isOpen (x .state) (held q tb)) noTransaction (tb .transactions) (named-place t p tb (at .here)) is-open)))
+  room-open log full state d = rw full (omega (arith, s .room, positive (openPlaces tb) (in-places (λ q x. isOpen (x .state) (held q tb)) noTransaction (tb .transactions) (named-place t p tb (at .here)) is-open)))
     where
       positive : (l : List ℕ) → p ∈ l → 1 ≤ length l
       positive [] m = absurd (List·Memᴰ·not-nil m)
       positive (y ∷ l) m = omega arith
 
       is-open : isOpen (stateAt p tb) (held p tb) ≡ true
-      is-open = rw (st, some-any isDurable (held p tb) (record { it = d .it; there = d .there; holds = eq-eqb (d .it .kind) kind.durable (d .holds) })) refl
+      is-open = rw (state, some-any isDurable (held p tb) (record { it = d .it; there = d .there; holds = eq-eqb (d .it .kind) kind.durable (d .holds) })) refl
 
 -- ── one enlistment of the transaction changes ───────────────────────────────────────────────────────────────────
 
@@ -192,7 +184,7 @@ state-mild k x = inl (refl, refl, refl, refl)
 freed-mild : Mild freed
 freed-mild x = inr refl
 
-module _ (tb : Table) (log : List ℕ) (n : ℕ) (s : Sound tb) (full : length log ≡ tb .capacity) (nm : Named tb n) (x : TxId) (y : RmId) where
+module _ (tb : Table) (log : List ℕ) (n : ℕ) (s : Sound tb) (full : length log ≡ tb .capacity) (named : Named tb n) (x : TxId) (y : RmId) where
   abbrev pub t : Id
   t = ownerOf n tb
 
@@ -218,7 +210,7 @@ module _ (tb : Table) (log : List ℕ) (n : ℕ) (s : Sound tb) (full : length l
   was : (f : Enlistment → Enlistment) → Mild f → {w : Enlistment} → w ∈ held p (changed f) → Some (λ e. (w .rm ≡ e .rm) × (w .number ≡ e .number)) hs
   was f mild {w} m = by-either
       (λ q. record { it = c .it; there = c .there; holds = (ap (λ (e : Enlistment). e .rm) (c .holds) ∙ q .1, ap (λ (e : Enlistment). e .number) (c .holds) ∙ q .2) })
-      (λ q. absurd (not-zero (named-place t p tb (nm .stands .here)) (sym (of-held p (changed f) m .1) ∙ ap (λ (e : Enlistment). e .holder) (c .holds) ∙ q)))
+      (λ q. absurd (not-zero (named-place t p tb (named .stands .here)) (sym (of-held p (changed f) m .1) ∙ ap (λ (e : Enlistment). e .holder) (c .holds) ∙ q)))
       (mild-on f mild (c .it))
     where
       c : Some (λ e. w ≡ onNumber n f e) hs
@@ -230,21 +222,21 @@ module _ (tb : Table) (log : List ℕ) (n : ℕ) (s : Sound tb) (full : length l
   kept-here f mild e h = by-test (heldBy p e)
       (λ b. by-either
       (λ q. rw b (eqb-true (e .holder) p b, q .1, q .2, q .3))
-      (λ q. absurd (not-zero (named-place t p tb (nm .stands .here)) (sym (eqb-true (onNumber n f e .holder) p (rw b at h)) ∙ q)))
+      (λ q. absurd (not-zero (named-place t p tb (named .stands .here)) (sym (eqb-true (onNumber n f e .holder) p (rw b at h)) ∙ q)))
       (mild-on f mild e))
       (λ b. no-clash (heldBy p e) (rw b at h) b)
 
   numbers-apart-after : (f : Enlistment → Enlistment) → Mild f → Apart (λ a b. a .number ≡ b .number) (held p (changed f))
   unfolding held changeHeld
   numbers-apart-after f mild = apart-changed isHeld (heldBy p) (onHeld p (onNumber n f))
-      (λ e h. is-held tb s t p (nm .stands) e (eq-eqb (e .holder) p (kept-here f mild e h .0)))
+      (λ e h. is-held tb s t p (named .stands) e (eq-eqb (e .holder) p (kept-here f mild e h .0)))
       (λ a b h k r. sym (kept-here f mild a h .2) ∙ r ∙ kept-here f mild b k .2)
       (tb .enlistments) (s .numbers-differ)
 
   managers-apart-after : (f : Enlistment → Enlistment) → Mild f → Apart (λ a b. a .rm .0 ≡ b .rm .0) (filter isDurable (held p (changed f)))
   unfolding held changeHeld
   managers-apart-after f mild = rw (filter-filter isDurable (heldBy p) (map g (tb .enlistments))) (apart-changed (λ e. isHeld e && isDurable e) (λ e. heldBy p e && isDurable e) g
-      (λ e h. and-true (is-held tb s t p (nm .stands) e (eq-eqb (e .holder) p (k e h .0))) (ap (λ k. eqb k kind.durable) (sym (k e h .3)) ∙ true-and (heldBy p (g e)) (isDurable (g e)) h .1))
+      (λ e h. and-true (is-held tb s t p (named .stands) e (eq-eqb (e .holder) p (k e h .0))) (ap (λ k. eqb k kind.durable) (sym (k e h .3)) ∙ true-and (heldBy p (g e)) (isDurable (g e)) h .1))
       (λ a b h i r. (k a h .0 ∙ sym (k b i .0), sym (ap (λ (r : RmId). r .0) (k a h .1)) ∙ r ∙ ap (λ (r : RmId). r .0) (k b i .1)))
       (tb .enlistments) (rw (filter-filter isDurable isHeld (tb .enlistments)) at (s .managers-differ)))
     where
@@ -259,25 +251,25 @@ module _ (tb : Table) (log : List ℕ) (n : ℕ) (s : Sound tb) (full : length l
   touched f mild = record {
     used = refl;
     capacity = refl;
-    stands = stands-held t p p (onNumber n f) tb (nm .stands);
-    other-view = λ u d. view-held-other u p (onNumber n f) tb (λ e. by-either (λ q. inl (q .0)) inr (mild-on f mild e)) (named-other t u (transactionAt p tb) (nm .stands .here) d);
+    stands = stands-held t p p (onNumber n f) tb (named .stands);
+    other-view = λ u d. view-held-other u p (onNumber n f) tb (λ e. by-either (λ q. inl (q .0)) inr (mild-on f mild e)) (named-other t u (transactionAt p tb) (named .stands .here) d);
     sized = λ w m. sized w (was f mild m);
-    few = omega (arith, held-shorter p (onNumber n f) tb, s .few p (live tb s t p (nm .stands)));
+    few = omega (arith, held-shorter p (onNumber n f) tb, s .few p (live tb s t p (named .stands)));
     owned = λ w m. owned w (was f mild m);
-    before = nm .stands;
+    before = named .stands;
     came = λ w m. came w (was f mild m);
     numbers-apart = numbers-apart-after f mild;
     managers-apart = managers-apart-after f mild;
   }
     where
       sized : (w : Enlistment) → Some (λ e. (w .rm ≡ e .rm) × (w .number ≡ e .number)) hs → (length (w .rm .0) ≡ identifierSize) × (w .number ≤ largestNumber)
-      sized w q = (ap (λ (r : RmId). length (r .0)) (q .holds .0) ∙ held-sized tb s t p (nm .stands) (q .there) .0, rw (q .holds .1) (held-sized tb s t p (nm .stands) (q .there) .1))
+      sized w q = (ap (λ (r : RmId). length (r .0)) (q .holds .0) ∙ held-sized tb s t p (named .stands) (q .there) .0, rw (q .holds .1) (held-sized tb s t p (named .stands) (q .there) .1))
 
       came : (w : Enlistment) → Some (λ e. (w .rm ≡ e .rm) × (w .number ≡ e .number)) hs → Some (λ e. (w .rm .0 ≡ e .rm .0) × (w .number ≡ e .number)) hs
       came w q = record { it = q .it; there = q .there; holds = (ap (λ (r : RmId). r .0) (q .holds .0), q .holds .1) }
 
       owned : (w : Enlistment) → Some (λ e. (w .rm ≡ e .rm) × (w .number ≡ e .number)) hs → Owned tb t (w .number)
-      owned w q = inr (rw (q .holds .1) (owner-held tb s t p (nm .stands) (q .there) .1))
+      owned w q = inr (rw (q .holds .1) (owner-held tb s t p (named .stands) (q .there) .1))
 
   -- another number is left alone
   left-alone : (f : Enlistment → Enlistment) (e : Enlistment) → (e .number ≡ n → ⊥) → onNumber n f e ≡ e
@@ -288,33 +280,33 @@ module _ (tb : Table) (log : List ℕ) (n : ℕ) (s : Sound tb) (full : length l
 
   -- what had P keeps it, unless it is the event's own enlistment
   keep-others : (P : Enlistment → Type 0) (f : Enlistment → Enlistment) → (P me → ⊥) → Some P hs → Some P (held p (changed f))
-  keep-others P f nope h = held-own P P p (onNumber n f) tb (λ e m q. rw (left-alone f e (λ d. nope (subst P (sym (nm .only m d)) q))) (q, refl)) h
+  keep-others P f nope h = held-own P P p (onNumber n f) tb (λ e m q. rw (left-alone f e (λ d. nope (subst P (sym (named .only m d)) q))) (q, refl)) h
 
   -- the event's own enlistment afterwards
   own-after : (P : Enlistment → Type 0) (f : Enlistment → Enlistment) → P (f me) → f me .holder ≡ p → Some P (held p (changed f))
-  own-after P f q h = held-own (λ e. me ≡ e) P p (onNumber n f) tb (λ e m d. rw (← d, is-changed f me (nm .number)) (q, h)) (record { it = me; there = nm .mine; holds = refl })
+  own-after P f q h = held-own (λ e. me ≡ e) P p (onNumber n f) tb (λ e m d. rw (← d, is-changed f me (named .number)) (q, h)) (record { it = me; there = named .mine; holds = refl })
 
   -- the view before and after, by the state of the transaction
   view-before : (k : ℕ) → stateAt p tb ≡ k → viewOf t tb ≡ look k hs
-  view-before k q = view-stands t p tb (nm .stands) ∙ ap (λ k. look k hs) q
+  view-before k q = view-stands t p tb (named .stands) ∙ ap (λ k. look k hs) q
 
   view-after : (f : Enlistment → Enlistment) (k : ℕ) → stateAt p tb ≡ k → viewOf t (changed f) ≡ look k (held p (changed f))
-  view-after f k q = view-changes t p tb (nm .stands) (onNumber n f) ∙ ap (λ k. look k (held p (changed f))) q
+  view-after f k q = view-changes t p tb (named .stands) (onNumber n f) ∙ ap (λ k. look k (held p (changed f))) q
 
   state-after : (f : Enlistment → Enlistment) (k : ℕ) → stateAt p tb ≡ k → stateAt p (changed f) ≡ k
   state-after f k q = state-held p p (onNumber n f) tb ∙ q
 
   -- ── vote ──────────────────────────────────────────────────────────────────────────────────────────────────────
 
-  module _ (v : Vote) (st : In enlistment.preparing me) where
-    abbrev ev : Event
-    ev = event (act.Vote n v)
+  module _ (v : Vote) (state : In enlistment.preparing me) where
+    abbrev this-event : Event
+    this-event = event (act.Vote n v)
 
     abbrev cast : Note
     cast = Note.voted t n (me .rm .0) (me .kind) v
 
     voting-state : stateAt p tb ≡ transaction.phaseOne
-    voting-state = of-voting (stateAt p tb) me (nm .line) (inl st)
+    voting-state = of-voting (stateAt p tb) me (named .line) (inl state)
 
     vote-calm : NotEnlisted t cast
     vote-calm m r k q = let z : _≡_ {A = ℕ} 0 1 = cc in omega arith
@@ -327,31 +319,31 @@ module _ (tb : Table) (log : List ℕ) (n : ℕ) (s : Sound tb) (full : length l
       where
         go : Dec (m ≡ n) → VoteOf t m cast ⊎ Some (Preparing m) (held p (changed f))
         go (yes q) = inl (me .rm .0, me .kind, v, ap (λ k. Note.voted t k (me .rm .0) (me .kind) v) (sym q), yes-vote)
-        go (no q) = inr (keep-others (Preparing m) f (λ w. q (sym (w .0) ∙ nm .number)) h)
+        go (no q) = inr (keep-others (Preparing m) f (λ w. q (sym (w .0) ∙ named .number)) h)
 
     abbrev HasVoted : (f : Enlistment → Enlistment) → Mild f → Type 0
-    HasVoted f mild = Voted tb ev log t p (changed f) (touched f mild) refl hs (noteOf tb ev)
+    HasVoted f mild = Voted tb this-event log t p (changed f) (touched f mild) refl hs (noteOf tb this-event)
 
     -- not the last vote
-    vote-more : (f : Enlistment → Enlistment) (mild : Mild f) → HasVoted f mild → Own tb ev log t (quietly (changed f) log)
-    vote-more f mild w = unlogged tb ev log t p (changed f) (touched f mild) refl (changed f) [] (addressed-nothing tb ev) refl (λ u d. refl)
+    vote-more : (f : Enlistment → Enlistment) (mild : Mild f) → HasVoted f mild → Own tb this-event log t (quietly (changed f) log)
+    vote-more f mild w = unlogged tb this-event log t p (changed f) (touched f mild) refl (changed f) [] (addressed-nothing tb this-event) refl (λ u d. refl)
         (λ h made l a. rw (view-before transaction.phaseOne voting-state, view-after f transaction.phaseOne voting-state)
-        (vote-on refl (quiet t tb ev [] (only-nothing notCommitted) (only-nothing notAborted)) (w .calm) (w .preparing) (w .hopes) (w .prepares)))
+        (vote-on refl (quiet t tb this-event [] (only-nothing notCommitted) (only-nothing notAborted)) (w .calm) (w .preparing) (w .hopes) (w .prepares)))
 
-    vote-decides : (f : Enlistment → Enlistment) (mild : Mild f) → HasVoted f mild → Own tb ev log t (follow then.Decide p (changed f) log)
+    vote-decides : (f : Enlistment → Enlistment) (mild : Mild f) → HasVoted f mild → Own tb this-event log t (follow then.Decide p (changed f) log)
     unfolding follow
-    vote-decides f mild w = by-cases (Own tb ev log t) (any (isIn enlistment.preparing) (held p (changed f))) _ _
+    vote-decides f mild w = by-cases (Own tb this-event log t) (any (isIn enlistment.preparing) (held p (changed f))) _ _
         (λ _. vote-more f mild w)
-        (λ q. own-decide tb ev log t p (changed f) (touched f mild) refl hs (view-before transaction.phaseOne voting-state) (own-id-size tb s t p (nm .stands)) w q
-        (full ∙ sym (touched f mild .capacity)) (rw (touched f mild .used, touched f mild .capacity) (low tb s t p (nm .stands)))
+        (λ q. own-decide tb this-event log t p (changed f) (touched f mild) refl hs (view-before transaction.phaseOne voting-state) (own-id-size tb s t p (named .stands)) w q
+        (full ∙ sym (touched f mild .capacity)) (rw (touched f mild .used, touched f mild .capacity) (low tb s t p (named .stands)))
         (λ c. omega (arith, c, state-after f transaction.phaseOne voting-state)))
 
   own-vote : (v : Vote) → In enlistment.preparing me → Own tb (event (act.Vote n v)) log t (react (toVote v) p n tb log)
   unfolding react follow told
-  own-vote vote.Prepared st = vote-decides vote.Prepared st (inState enlistment.prepared) (state-mild enlistment.prepared) (record {
-    calm = vote-calm vote.Prepared st;
-    preparing = voted-preparing vote.Prepared st (inState enlistment.prepared) (inl refl);
-    hopes = λ r h. keep-others (Hopes r) (inState enlistment.prepared) (not-hoping vote.Prepared st r) h;
+  own-vote vote.Prepared state = vote-decides vote.Prepared state (inState enlistment.prepared) (state-mild enlistment.prepared) (record {
+    calm = vote-calm vote.Prepared state;
+    preparing = voted-preparing vote.Prepared state (inState enlistment.prepared) (inl refl);
+    hopes = λ r h. keep-others (Hopes r) (inState enlistment.prepared) (not-hoping vote.Prepared state r) h;
     prepares = λ r q. own-after (Hopes r) (inState enlistment.prepared) (kind-of r q, rm-of r q, inl refl) refl;
   })
     where
@@ -360,16 +352,16 @@ module _ (tb : Table) (log : List ℕ) (n : ℕ) (s : Sound tb) (full : length l
 
       rm-of : (r : Id) → Prepares t r (Note.voted t n (me .rm .0) (me .kind) vote.Prepared) → me .rm .0 ≡ r
       rm-of r (m, q) = cc
-  own-vote vote.ReadOnly st = vote-decides vote.ReadOnly st freed freed-mild (record {
-    calm = vote-calm vote.ReadOnly st;
-    preparing = voted-preparing vote.ReadOnly st freed (inr refl);
-    hopes = λ r h. keep-others (Hopes r) freed (not-hoping vote.ReadOnly st r) h;
+  own-vote vote.ReadOnly state = vote-decides vote.ReadOnly state freed freed-mild (record {
+    calm = vote-calm vote.ReadOnly state;
+    preparing = voted-preparing vote.ReadOnly state freed (inr refl);
+    hopes = λ r h. keep-others (Hopes r) freed (not-hoping vote.ReadOnly state r) h;
     prepares = λ r q. absurd (other r q);
   })
     where
       other : (r : Id) → Prepares t r (Note.voted t n (me .rm .0) (me .kind) vote.ReadOnly) → ⊥
       other r (m, q) = let z : _≡_ {A = ℕ} 0 1 = cc in omega arith
-  own-vote vote.Aborted st = own-abort tb (event (act.Vote n vote.Aborted)) log t p (changed (inState enlistment.done)) (touched (inState enlistment.done) (state-mild enlistment.done)) refl (rw (view-before transaction.phaseOne (voting-state vote.Aborted st)) d-voting)
+  own-vote vote.Aborted state = own-abort tb (event (act.Vote n vote.Aborted)) log t p (changed (inState enlistment.done)) (touched (inState enlistment.done) (state-mild enlistment.done)) refl (rw (view-before transaction.phaseOne (voting-state vote.Aborted state)) from-voting)
 
   -- ── after the decision ────────────────────────────────────────────────────────────────────────────────────────
 
@@ -392,30 +384,30 @@ module _ (tb : Table) (log : List ℕ) (n : ℕ) (s : Sound tb) (full : length l
       same e = by-cases (λ (w : Enlistment). w .kind ≡ e .kind) (isNumbered n e) (inState k e) e (λ _. refl) (λ _. refl)
 
   none-stays : (k : ℕ) → NoDurable hs → NoDurable (held p (changed (inState k)))
-  none-stays k nd w m d = let c : Some Durable hs = durable-came k m d in nd (c .it) (c .there) (c .holds)
+  none-stays k no-durable w m d = let c : Some Durable hs = durable-came k m d in no-durable (c .it) (c .there) (c .holds)
 
   -- who waits still waits, or it is the event's own enlistment
   waits-stays : (k : ℕ) (r : Id) → Some (Waits r) hs → Some (Waits r) (held p (changed (inState k))) ⊎ ((me .rm .0 ≡ r) × Durable me)
   waits-stays k r h = go (ℕ-discrete (h .it .number) n)
     where
       go : Dec (h .it .number ≡ n) → Some (Waits r) (held p (changed (inState k))) ⊎ ((me .rm .0 ≡ r) × Durable me)
-      go (yes q) = inr (rw (nm .only (h .there) q) (h .holds .1, h .holds .0))
+      go (yes q) = inr (rw (named .only (h .there) q) (h .holds .1, h .holds .0))
       go (no q) = inl (held-own (λ e. h .it ≡ e) (Waits r) p (onNumber n (inState k)) tb
           (λ e m d. rw (← d, left-alone (inState k) (h .it) q) (h .holds, refl)) (record { it = h .it; there = h .there; holds = refl }))
 
   -- its forget record fits, if it is open still
   room-after : (k : ℕ) → stateAt p tb ≡ transaction.committing → any isDurable (held p (changed (inState k))) ≡ true → changed (inState k) .used + forgetSize ≤ length log
-  room-after k st d = rw (touched (inState k) (state-mild k) .used) (room-open tb s t p (nm .stands) log full st (durable-came k (c .there) (eqb-true (c .it .kind) kind.durable (c .holds))))
+  room-after k state d = rw (touched (inState k) (state-mild k) .used) (room-open tb s t p (named .stands) log full state (durable-came k (c .there) (eqb-true (c .it .kind) kind.durable (c .holds))))
     where
       c : Some (λ e. isDurable e ≡ true) (held p (changed (inState k)))
       c = any-some isDurable (held p (changed (inState k))) d
 
-  module _ (a : Act) (about : subjectOf tb (event a) ≡ t) (st : stateAt p tb ≡ transaction.committing) (calm : Calm t (noteOf tb (event a))) where
+  module _ (a : Act) (about : subjectOf tb (event a) ≡ t) (state : stateAt p tb ≡ transaction.committing) (calm : Calm t (noteOf tb (event a))) where
     -- it is Done
     done-committing : (Durable me → Closes t (me .rm .0) (noteOf tb (event a))) → Own tb (event a) log t (follow then.End p (changed (inState enlistment.done)) log)
     unfolding follow
     done-committing closes = own-end-committing tb (event a) log t p (changed (inState enlistment.done)) (touched (inState enlistment.done) (state-mild enlistment.done)) about hs
-        (view-before transaction.committing st) (state-after (inState enlistment.done) transaction.committing st)
+        (view-before transaction.committing state) (state-after (inState enlistment.done) transaction.committing state)
         (record {
           calm = calm;
           waits = λ r h. by-either inl (λ q. inr (rw (q .0) at (closes (q .1)))) (waits-stays enlistment.done r h);
@@ -423,26 +415,17 @@ module _ (tb : Table) (log : List ℕ) (n : ℕ) (s : Sound tb) (full : length l
           no-durable = none-stays enlistment.done;
           numbers = numbers-stay enlistment.done;
         })
-        (own-id-size tb s t p (nm .stands)) (view-after (inState enlistment.done) transaction.committing st) (room-after enlistment.done st)
+        (own-id-size tb s t p (named .stands)) (view-after (inState enlistment.done) transaction.committing state) (room-after enlistment.done state)
 
   done-aborting : (a : Act) → subjectOf tb (event a) ≡ t → stateAt p tb ≡ transaction.aborting → Own tb (event a) log t (follow then.End p (changed (inState enlistment.done)) log)
   unfolding follow
-  done-aborting a about st = own-end-aborting tb (event a) log t p (changed (inState enlistment.done)) (touched (inState enlistment.done) (state-mild enlistment.done)) about
-      (view-before transaction.aborting st) (state-after (inState enlistment.done) transaction.aborting st) (view-after (inState enlistment.done) transaction.aborting st)
-
-  ack-calm : Calm t (Note.acked t n (me .rm .0) (me .kind))
-  ack-calm = record { not-enlisted = λ m r k q. no₁ m r k q; not-prepared = λ r q. no₂ r (q .0) (q .1) }
-    where
-      no₁ : (m : ℕ) (r : Id) (k : ℕ) → Note.acked t n (me .rm .0) (me .kind) ≡ Note.enlisted t m r k → ⊥
-      no₁ m r k q = let z : _≡_ {A = ℕ} 0 1 = cc in omega arith
-
-      no₂ : (r : Id) (m : ℕ) → Note.acked t n (me .rm .0) (me .kind) ≡ Note.voted t m r kind.durable vote.Prepared → ⊥
-      no₂ r m q = let z : _≡_ {A = ℕ} 0 1 = cc in omega arith
+  done-aborting a about state = own-end-aborting tb (event a) log t p (changed (inState enlistment.done)) (touched (inState enlistment.done) (state-mild enlistment.done)) about
+      (view-before transaction.aborting state) (state-after (inState enlistment.done) transaction.aborting state) (view-after (inState enlistment.done) transaction.aborting state)
 
   own-ack : In enlistment.toldCommit me ⊎ In enlistment.toldAbort me → Own tb (event (act.Ack n)) log t (react (reaction.Becomes enlistment.done then.End) p n tb log)
   unfolding react told
-  own-ack (inl st) = done-committing (act.Ack n) refl (of-commit (stateAt p tb) me (nm .line) (inl st)) ack-calm (λ d. inl (n, ap (Note.acked t n (me .rm .0)) d))
-  own-ack (inr st) = done-aborting (act.Ack n) refl (of-abort (stateAt p tb) me (nm .line) st)
+  own-ack (inl state) = done-committing (act.Ack n) refl (of-commit (stateAt p tb) me (named .line) (inl state)) (calm-note t (Note.acked t n (me .rm .0) (me .kind)) refl) (λ d. inl (n, ap (Note.acked t n (me .rm .0)) d))
+  own-ack (inr state) = done-aborting (act.Ack n) refl (of-abort (stateAt p tb) me (named .line) state)
 
   -- ── the end of single phase ───────────────────────────────────────────────────────────────────────────────────
 
@@ -451,39 +434,39 @@ module _ (tb : Table) (log : List ℕ) (n : ℕ) (s : Sound tb) (full : length l
 
   end-is : (a : Name) → stateAt p tb ≡ transaction.singlePhase → follow (then.EndWith a) p (changed freed) log ≡ single-over a
   unfolding follow
-  end-is a st = ap (saying (toApp a)) (unlogged-end p (changed freed) log (λ q. omega (arith, q, state-after freed transaction.singlePhase st)))
+  end-is a state = ap (saying (toApp a)) (unlogged-end p (changed freed) log (λ q. omega (arith, q, state-after freed transaction.singlePhase state)))
 
   -- what the application is told is no abort after a committed reply, and no commit after any other
   reply-ends : (r : Reply) (a : Name) → (h : stateAt p tb ≡ transaction.singlePhase)
       → ((h : List Note) (l : Story) → Agrees (viewOf t tb) l → Move t h (noteOf tb (event (act.Reply n r))) (map (messageOf tb (event (act.Reply n r))) (toApp a)) l l (alone.single hs) alone.out)
       → Own tb (event (act.Reply n r)) log t (follow (then.EndWith a) p (changed freed) log)
-  reply-ends r a st mv = rw (end-is a st) (unlogged tb (event (act.Reply n r)) log t p (changed freed) (touched freed freed-mild) refl (emptied p (changed freed)) (toApp a) (addressed-one tb (event (act.Reply n r)) a 0 (inl refl)) (used-emptied p (changed freed)) (ends-for t p (changed freed) (touched freed freed-mild .stands))
-      (λ h made l g. rw (view-before transaction.singlePhase st, view-ends t p (changed freed) (touched freed freed-mild .stands)) (mv h l g)))
+  reply-ends r a state moves = rw (end-is a state) (unlogged tb (event (act.Reply n r)) log t p (changed freed) (touched freed freed-mild) refl (emptied p (changed freed)) (toApp a) (addressed-one tb (event (act.Reply n r)) a 0 (inl refl)) (used-emptied p (changed freed)) (ends-for t p (changed freed) (touched freed freed-mild .stands))
+      (λ h made l g. rw (view-before transaction.singlePhase state, view-ends t p (changed freed) (touched freed freed-mild .stands)) (moves h l g)))
 
   own-reply : (r : Reply) → In enlistment.onePhase me → Own tb (event (act.Reply n r)) log t (react (reaction.Freed (then.EndWith (toReply r))) p n tb log)
   unfolding react told
-  own-reply reply.Committed st = reply-ends reply.Committed name.AppCommitted (of-single (stateAt p tb) me (nm .line) st)
-      (λ h l g. replied refl refl (record { it = me; there = nm .mine; holds = nm .number }) (none-aborted t tb (event (act.Reply n reply.Committed)) (toApp name.AppCommitted) (only-one notAborted name.AppCommitted 0 refl)))
-  own-reply reply.Aborted st = reply-ends reply.Aborted name.AppAborted (of-single (stateAt p tb) me (nm .line) st)
-      (λ h l g. abort refl d-single g-out (none-committed t tb (event (act.Reply n reply.Aborted)) (toApp name.AppAborted) (only-one notCommitted name.AppAborted 0 refl)))
-  own-reply reply.InDoubt st = reply-ends reply.InDoubt name.AppInDoubt (of-single (stateAt p tb) me (nm .line) st)
-      (λ h l g. abort refl d-single g-out (none-committed t tb (event (act.Reply n reply.InDoubt)) (toApp name.AppInDoubt) (only-one notCommitted name.AppInDoubt 0 refl)))
+  own-reply reply.Committed state = reply-ends reply.Committed name.AppCommitted (of-single (stateAt p tb) me (named .line) state)
+      (λ h l g. replied refl refl (record { it = me; there = named .mine; holds = named .number }) (none-aborted t tb (event (act.Reply n reply.Committed)) (toApp name.AppCommitted) (only-one notAborted name.AppCommitted 0 refl)))
+  own-reply reply.Aborted state = reply-ends reply.Aborted name.AppAborted (of-single (stateAt p tb) me (named .line) state)
+      (λ h l g. abort refl from-single to-out (none-committed t tb (event (act.Reply n reply.Aborted)) (toApp name.AppAborted) (only-one notCommitted name.AppAborted 0 refl)))
+  own-reply reply.InDoubt state = reply-ends reply.InDoubt name.AppInDoubt (of-single (stateAt p tb) me (named .line) state)
+      (λ h l g. abort refl from-single to-out (none-committed t tb (event (act.Reply n reply.InDoubt)) (toApp name.AppInDoubt) (only-one notCommitted name.AppInDoubt 0 refl)))
 
   -- ── zero done ─────────────────────────────────────────────────────────────────────────────────────────────────
 
   own-zero-done : In enlistment.zero me → Own tb (event (act.ZeroDone n)) log t (react (reaction.Freed then.StartPhaseOne) p n tb log)
   unfolding react follow told
-  own-zero-done st = by-cases (Own tb ev log t) (any isPhaseZero (held p (changed freed))) _ _
-      (λ _. unlogged tb ev log t p (changed freed) (touched freed freed-mild) refl (changed freed) [] (addressed-nothing tb ev) refl (λ u d. refl)
+  own-zero-done state = by-cases (Own tb this-event log t) (any isPhaseZero (held p (changed freed))) _ _
+      (λ _. unlogged tb this-event log t p (changed freed) (touched freed freed-mild) refl (changed freed) [] (addressed-nothing tb this-event) refl (λ u d. refl)
       (λ h made l g. rw (view-before transaction.phaseZero (two .0), view-after freed transaction.phaseZero (two .0))
-      (gather refl (nothing-calm t .not-prepared) (quiet t tb ev [] (only-nothing notCommitted) (only-nothing notAborted)) unasked (λ m r k q w. absurd (nothing-calm t .not-enlisted m r k q)))))
-      (λ _. own-start tb ev log t p (changed freed) (touched freed freed-mild) refl hs (view-before transaction.phaseZero (two .0)) (nothing-calm t) unasked (λ c. omega (arith, c, state-after freed transaction.phaseZero (two .0))))
+      (gather refl (nothing-calm t .not-prepared) (quiet t tb this-event [] (only-nothing notCommitted) (only-nothing notAborted)) unasked (λ m r k q w. absurd (nothing-calm t .not-enlisted m r k q)))))
+      (λ _. own-start tb this-event log t p (changed freed) (touched freed freed-mild) refl hs (view-before transaction.phaseZero (two .0)) (nothing-calm t) unasked (λ c. omega (arith, c, state-after freed transaction.phaseZero (two .0))))
     where
-      ev : Event
-      ev = event (act.ZeroDone n)
+      this-event : Event
+      this-event = event (act.ZeroDone n)
 
       two : (stateAt p tb ≡ transaction.phaseZero) × PhaseZero me
-      two = of-zero (stateAt p tb) me (nm .line) st
+      two = of-zero (stateAt p tb) me (named .line) state
 
       no-vote : Votes (me .kind) → ⊥
       no-vote m = by-either (λ q. omega (arith, q, two .1)) (λ q. omega (arith, q, two .1)) m
@@ -502,50 +485,50 @@ module _ (tb : Table) (log : List ℕ) (n : ℕ) (s : Sound tb) (full : length l
 
   lost-prepared : In enlistment.prepared me → Own tb lost log t (react (reaction.Becomes enlistment.preparedLost then.Nothing) p n tb log)
   unfolding react follow told
-  lost-prepared st = unlogged tb lost log t p (changed (inState enlistment.preparedLost)) (touched (inState enlistment.preparedLost) (state-mild enlistment.preparedLost)) refl (changed (inState enlistment.preparedLost)) [] (addressed-nothing tb lost) refl (λ u d. refl)
+  lost-prepared state = unlogged tb lost log t p (changed (inState enlistment.preparedLost)) (touched (inState enlistment.preparedLost) (state-mild enlistment.preparedLost)) refl (changed (inState enlistment.preparedLost)) [] (addressed-nothing tb lost) refl (λ u d. refl)
       (λ h made l g. rw (view-before transaction.phaseOne three, view-after (inState enlistment.preparedLost) transaction.phaseOne three)
       (vote-on refl (quiet t tb lost [] (only-nothing notCommitted) (only-nothing notAborted)) (nothing-calm t .not-enlisted)
-      (λ m w. inr (keep-others (Preparing m) (inState enlistment.preparedLost) (λ q. omega (arith, st, q .1)) w))
+      (λ m w. inr (keep-others (Preparing m) (inState enlistment.preparedLost) (λ q. omega (arith, state, q .1)) w))
       (λ r w. held-own (Hopes r) (Hopes r) p (onNumber n (inState enlistment.preparedLost)) tb (λ e m q. by-cases (λ (v : Enlistment). Hopes r v × (v .holder ≡ e .holder)) (isNumbered n e) (inState enlistment.preparedLost e) e (λ _. ((q .0, q .1, inr refl), refl)) (λ _. (q, refl))) w)
       (λ r q. absurd (nothing-calm t .not-prepared r q))))
     where
       three : stateAt p tb ≡ transaction.phaseOne
-      three = of-voting (stateAt p tb) me (nm .line) (inr st)
+      three = of-voting (stateAt p tb) me (named .line) (inr state)
 
   lost-single : In enlistment.onePhase me → Own tb lost log t (react (reaction.Freed (then.EndWith name.AppInDoubt)) p n tb log)
   unfolding react
-  lost-single st = rw (end-is name.AppInDoubt four) (unlogged tb lost log t p (changed freed) (touched freed freed-mild) refl (emptied p (changed freed)) (toApp name.AppInDoubt) (addressed-one tb lost name.AppInDoubt 0 (inl refl)) (used-emptied p (changed freed)) (ends-for t p (changed freed) (touched freed freed-mild .stands))
-      (λ h made l g. rw (view-before transaction.singlePhase four, view-ends t p (changed freed) (touched freed freed-mild .stands)) (abort refl d-single g-out (none-committed t tb lost (toApp name.AppInDoubt) (only-one notCommitted name.AppInDoubt 0 refl)))))
+  lost-single state = rw (end-is name.AppInDoubt four) (unlogged tb lost log t p (changed freed) (touched freed freed-mild) refl (emptied p (changed freed)) (toApp name.AppInDoubt) (addressed-one tb lost name.AppInDoubt 0 (inl refl)) (used-emptied p (changed freed)) (ends-for t p (changed freed) (touched freed freed-mild .stands))
+      (λ h made l g. rw (view-before transaction.singlePhase four, view-ends t p (changed freed) (touched freed freed-mild .stands)) (abort refl from-single to-out (none-committed t tb lost (toApp name.AppInDoubt) (only-one notCommitted name.AppInDoubt 0 refl)))))
     where
       four : stateAt p tb ≡ transaction.singlePhase
-      four = of-single (stateAt p tb) me (nm .line) st
+      four = of-single (stateAt p tb) me (named .line) state
 
   lost-told : In enlistment.toldCommit me → Own tb lost log t (react (reaction.Becomes enlistment.failedToNotify then.Nothing) p n tb log)
   unfolding react follow told
-  lost-told st = unlogged tb lost log t p (changed (inState enlistment.failedToNotify)) (touched (inState enlistment.failedToNotify) (state-mild enlistment.failedToNotify)) refl (changed (inState enlistment.failedToNotify)) [] (addressed-nothing tb lost) refl (λ u d. refl)
+  lost-told state = unlogged tb lost log t p (changed (inState enlistment.failedToNotify)) (touched (inState enlistment.failedToNotify) (state-mild enlistment.failedToNotify)) refl (changed (inState enlistment.failedToNotify)) [] (addressed-nothing tb lost) refl (λ u d. refl)
       (λ h made l g. rw (view-before transaction.committing five, view-after (inState enlistment.failedToNotify) transaction.committing five)
       (told-on refl (nothing-calm t) (none-aborted t tb lost [] (only-nothing notAborted))
       (λ r w. inl (held-own (Waits r) (Waits r) p (onNumber n (inState enlistment.failedToNotify)) tb (λ e m q. by-cases (λ (v : Enlistment). Waits r v × (v .holder ≡ e .holder)) (isNumbered n e) (inState enlistment.failedToNotify e) e (λ _. ((q .0, q .1, inr refl), refl)) (λ _. (q, refl))) w))
       (durable-stays enlistment.failedToNotify) (none-stays enlistment.failedToNotify) (numbers-stay enlistment.failedToNotify)))
     where
       five : stateAt p tb ≡ transaction.committing
-      five = of-commit (stateAt p tb) me (nm .line) (inl st)
+      five = of-commit (stateAt p tb) me (named .line) (inl state)
 
   lost-committing : In enlistment.toldCommit me → durableKind (me .kind) ≡ false → Own tb lost log t (react (reaction.Becomes enlistment.done then.End) p n tb log)
   unfolding react told
-  lost-committing st nd = done-committing (act.Lost n) refl (of-commit (stateAt p tb) me (nm .line) (inl st)) (nothing-calm t) (λ d. absurd (eqb-false (me .kind) kind.durable nd d))
+  lost-committing state no-durable = done-committing (act.Lost n) refl (of-commit (stateAt p tb) me (named .line) (inl state)) (nothing-calm t) (λ d. absurd (eqb-false (me .kind) kind.durable no-durable d))
 
   lost-aborting : In enlistment.toldAbort me → Own tb lost log t (react (reaction.Becomes enlistment.done then.End) p n tb log)
   unfolding react
-  lost-aborting st = done-aborting (act.Lost n) refl (of-abort (stateAt p tb) me (nm .line) st)
+  lost-aborting state = done-aborting (act.Lost n) refl (of-abort (stateAt p tb) me (named .line) state)
 
   -- before the decision
   early-doomed : In enlistment.active me ⊎ In enlistment.zero me → Doomed t (viewOf t tb)
-  early-doomed (inl q) = by-either (λ w. rw (view-before transaction.active w) d-early) (λ w. rw (view-before transaction.phaseZero w) d-early) (of-active (stateAt p tb) me (nm .line) q)
-  early-doomed (inr q) = rw (view-before transaction.phaseZero (of-zero (stateAt p tb) me (nm .line) q .0)) d-early
+  early-doomed (inl q) = by-either (λ w. rw (view-before transaction.active w) from-early) (λ w. rw (view-before transaction.phaseZero w) from-early) (of-active (stateAt p tb) me (named .line) q)
+  early-doomed (inr q) = rw (view-before transaction.phaseZero (of-zero (stateAt p tb) me (named .line) q .0)) from-early
 
   voting-doomed : In enlistment.preparing me ⊎ In enlistment.prepared me → Doomed t (viewOf t tb)
-  voting-doomed q = rw (view-before transaction.phaseOne (of-voting (stateAt p tb) me (nm .line) q)) d-voting
+  voting-doomed q = rw (view-before transaction.phaseOne (of-voting (stateAt p tb) me (named .line) q)) from-voting
 
   -- ── every reaction ────────────────────────────────────────────────────────────────────────────────────────────
 

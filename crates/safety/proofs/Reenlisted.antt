@@ -1,4 +1,5 @@
--- A finished re-enlistment, which may end several transactions: what it is to each of them.
+-- A finished re-enlistment makes Done what this resource manager holds in 8, and with that closes its own right to ask, in each transaction alike. So to each it is
+-- a move: it ends if all are Done now, and else goes on; whoever else waits there waits as before.
 use Prim.Native.Nat.{ℕ, suc}
 use native.Mathlib.Omega.{arith}
 use mathlib.Core.Path.{_≡_, refl, sym, _∙_, ap}
@@ -17,7 +18,6 @@ use Rattle.lists.proofs.Sorting.{in-sort, of-sort}
 use Rattle.rules.specs.declared.Transaction.{Transaction}
 use Rattle.rules.specs.declared.Enlistment.{Enlistment}
 use Rattle.rules.specs.declared.Table.{Table}
-use Rattle.rules.specs.declared.Vote.the-variants as vote
 use Rattle.rules.specs.Kinds as kind
 use Rattle.rules.specs.TransactionState as transaction
 use Rattle.rules.specs.EnlistmentState as enlistment
@@ -32,7 +32,7 @@ use Rattle.safety.specs.World.{Note}
 use Rattle.safety.specs.Host.{Closes}
 use Rattle.safety.proofs.Alone as alone
 use Rattle.safety.proofs.Alone.{Story, closed, View, out, Waits}
-use Rattle.safety.proofs.Move.{Quiet, Calm, Move, stay, told-on, end-logged}
+use Rattle.safety.proofs.Move.{Quiet, Calm, calm-note, Move, stay, told-on, end-logged}
 use Rattle.safety.proofs.Top.{Agrees}
 use Rattle.safety.proofs.Story.{story, onForget, Tells}
 use Rattle.safety.proofs.View.{viewOf, look, view-stands, view-absent}
@@ -81,15 +81,6 @@ same-places : {A : Type 0} (f g : ℕ → A → Bool) → ((q : ℕ) (x : A) →
 unfolding placesFrom
 same-places f g h k [] = refl
 same-places f g h k (x ∷ xs) = rw (h k x, same-places f g h (suc k) xs) refl
-
-reenlisted-calm : (t r : Id) → Calm t (Note.reenlisted r)
-reenlisted-calm t r = record { not-enlisted = λ n q k w. no₁ n q k w; not-prepared = λ q w. no₂ q (w .0) (w .1) }
-  where
-    no₁ : (m : ℕ) (q : Id) (k : ℕ) → Note.reenlisted r ≡ Note.enlisted t m q k → ⊥
-    no₁ m q k w = let z : _≡_ {A = ℕ} 0 1 = cc in omega arith
-
-    no₂ : (q : Id) (m : ℕ) → Note.reenlisted r ≡ Note.voted t m q kind.durable vote.Prepared → ⊥
-    no₂ q m w = let z : _≡_ {A = ℕ} 0 1 = cc in omega arith
 
 -- in Committing, at least one is not Done
 some-undone : {s : ℕ} {hs : List Enlistment} → HoldsWell s hs → s ≡ transaction.committing → Some (λ e. In enlistment.done e → ⊥) hs
@@ -168,7 +159,7 @@ module _ (r : Id) (tb : Table) (log : List ℕ) (s : Sound tb) (full : length lo
     silent = record { no-committed = λ m. List·Memᴰ·not-nil (m .there); no-aborted = λ m. List·Memᴰ·not-nil (m .there) }
 
     calm : Calm t (Note.reenlisted r)
-    calm = reenlisted-calm t r
+    calm = calm-note t (Note.reenlisted r) refl
 
     abbrev pub Result : View
     Result = viewOf t (endEach ps after log .table)
@@ -262,7 +253,7 @@ module _ (r : Id) (tb : Table) (log : List ℕ) (s : Sound tb) (full : length lo
             (told-on (seen .tale l) calm (silent .no-aborted)
             (λ q w. by-either (λ v. inl (record { it = doneFor r (w .it); there = in-map (doneFor r) (w .there); holds = v })) (λ e. inr (inr (ap Note.reenlisted (sym e)))) (done-waits r q (w .it) (w .holds)))
             (λ w. record { it = doneFor r (w .it); there = in-map (doneFor r) (w .there); holds = done-kept r (w .it) .1 ∙ w .holds })
-            (λ nd e m d. let c : Some (λ w. doneFor r w ≡ e) hs = of-map (doneFor r) hs m in nd (c .it) (c .there) (sym (done-kept r (c .it) .1) ∙ ap (λ (w : Enlistment). w .kind) (c .holds) ∙ d))
+            (λ no-durable e m d. let c : Some (λ w. doneFor r w ≡ e) hs = of-map (doneFor r) hs m in no-durable (c .it) (c .there) (sym (done-kept r (c .it) .1) ∙ ap (λ (w : Enlistment). w .kind) (c .holds) ∙ d))
             (λ n w. record { it = doneFor r (w .it); there = in-map (doneFor r) (w .there); holds = done-number r (w .it) ∙ w .holds }))
 
         -- before the decision, and after an abort, none is in Failed-to-notify

@@ -1,4 +1,5 @@
--- The table that a restart makes of open transactions that fit is sound.
+-- The table that a restart makes of open transactions that fit is sound: each stands at its place in the list, its entries are held at that place and at no other,
+-- and names, numbers and resource managers are as the judgements have found them.
 use Prim.Native.Nat.{ℕ, zero, suc, _+_, _*_, _-_, _≤_, _<_}
 use native.Mathlib.Omega.{arith}
 use mathlib.Core.Path.{_≡_, refl, sym, _∙_, ap}
@@ -36,25 +37,25 @@ of-replicate (suc n) a m = by-either (λ e. e) (λ i. of-replicate n a i) (List�
 -- ── where what is reopened stands ───────────────────────────────────────────────────────────────────────────────
 
 -- x is an entry of an open transaction, at the place of that
-record StandsAt (k : ℕ) (os : List Open) (zs : List Transaction) (x : Enlistment) : Type 0 where
+record StandsAt (k : ℕ) (os : List Open) (no-transactions : List Transaction) (x : Enlistment) : Type 0 where
   o : Open
   q : ℕ
   d : Entry
   is : x ≡ reenlistment q d
   open-one : o ∈ os
   entry : d ∈ o .entries
-  place : atFrom noTransaction k q (map reopened os ++ zs) ≡ reopened o
+  place : atFrom noTransaction k q (map reopened os ++ no-transactions) ≡ reopened o
   low : k ≤ q
 
-of-reenlistments : (k : ℕ) (os : List Open) (zs : List Transaction) {x : Enlistment} → x ∈ reenlistments k os → StandsAt k os zs x
+of-reenlistments : (k : ℕ) (os : List Open) (no-transactions : List Transaction) {x : Enlistment} → x ∈ reenlistments k os → StandsAt k os no-transactions x
 unfolding reenlistments atFrom
-of-reenlistments k [] zs m = absurd (List·Memᴰ·not-nil m)
-of-reenlistments k (o ∷ os) zs {x} m = by-either (λ i. here (of-map (reenlistment k) (o .entries) i)) (λ i. there (of-reenlistments (suc k) os zs i)) (List·Memᴰ·append-cases (map (reenlistment k) (o .entries)) m)
+of-reenlistments k [] no-transactions m = absurd (List·Memᴰ·not-nil m)
+of-reenlistments k (o ∷ os) no-transactions {x} m = by-either (λ i. here (of-map (reenlistment k) (o .entries) i)) (λ i. there (of-reenlistments (suc k) os no-transactions i)) (List·Memᴰ·append-cases (map (reenlistment k) (o .entries)) m)
   where
-    here : Some (λ d. reenlistment k d ≡ x) (o .entries) → StandsAt k (o ∷ os) zs x
+    here : Some (λ d. reenlistment k d ≡ x) (o .entries) → StandsAt k (o ∷ os) no-transactions x
     here s = record { o = o; q = k; d = s .it; is = sym (s .holds); open-one = List·Memᴰ·head refl; entry = s .there; place = rw (eq-eqb k k refl) refl; low = omega arith }
 
-    there : StandsAt (suc k) os zs x → StandsAt k (o ∷ os) zs x
+    there : StandsAt (suc k) os no-transactions x → StandsAt k (o ∷ os) no-transactions x
     there s = record { o = s .o; q = s .q; d = s .d; is = s .is; open-one = List·Memᴰ·tail (s .open-one); entry = s .entry; place = rw (ne-eqb k (s .q) (λ e. omega (arith, e, s .low))) (s .place); low = omega (arith, s .low) }
 
 -- a live place is that of an open transaction, whose entries are enlisted there
@@ -70,17 +71,18 @@ unfolding atFrom
 empties k p zero = refl
 empties k p (suc m) = by-test (eqb k p) (λ e. rw e refl) (λ e. rw e (empties (suc k) p m))
 
-live-at : (k p : ℕ) (os : List Open) (m : ℕ) → Live (atFrom noTransaction k p (map reopened os ++ replicate m noTransaction)) → LiveAt k p os (atFrom noTransaction k p (map reopened os ++ replicate m noTransaction))
+live-at : (k p : ℕ) (os : List Open) (m : ℕ) (y : Transaction) → atFrom noTransaction k p (map reopened os ++ replicate m noTransaction) ≡ y → Live y → LiveAt k p os y
 unfolding atFrom reenlistments
-live-at k p [] m l = absurd (l (ap (λ (x : Transaction). x .state) (empties k p m)))
-live-at k p (o ∷ os) m l = by-test (eqb k p)
-    (λ e. rw e (record { o = o; open-one = List·Memᴰ·head refl; is = refl; entered = λ d i. Memᴰ·append-left (reenlistments (suc k) os) (at-own (eqb-true k p e) d i); low = omega (arith, eqb-true k p e) }))
-    (λ e. rw e (there (live-at (suc k) p os m (rw e at l))))
+live-at k p [] m y q l = absurd (l (ap (λ (x : Transaction). x .state) (sym q ∙ empties k p m)))
+live-at k p (o ∷ os) m y q l = by-test (eqb k p) (λ e. here (eqb-true k p e) (rw e at q)) (λ e. there (live-at (suc k) p os m y (rw e at q) l))
   where
     at-own : k ≡ p → (d : Entry) → d ∈ o .entries → reenlistment p d ∈ map (reenlistment k) (o .entries)
     at-own e d i = rw (← e) (in-map (reenlistment k) i)
 
-    there : LiveAt (suc k) p os (atFrom noTransaction (suc k) p (map reopened os ++ replicate m noTransaction)) → LiveAt k p (o ∷ os) (atFrom noTransaction (suc k) p (map reopened os ++ replicate m noTransaction))
+    here : k ≡ p → reopened o ≡ y → LiveAt k p (o ∷ os) y
+    here e s = record { o = o; open-one = List·Memᴰ·head refl; is = sym s; entered = λ d i. Memᴰ·append-left (reenlistments (suc k) os) (at-own e d i); low = omega (arith, e) }
+
+    there : LiveAt (suc k) p os y → LiveAt k p (o ∷ os) y
     there s = record { o = s .o; open-one = List·Memᴰ·tail (s .open-one); is = s .is; entered = λ d i. Memᴰ·append-right (map (reenlistment k) (o .entries)) (s .entered d i); low = omega (arith, s .low) }
 
 few-open : (f : ℕ → Transaction → Bool) → ((q : ℕ) → f q noTransaction ≡ false) → (k : ℕ) (os : List Open) (m : ℕ) → length (placesFrom f k (map reopened os ++ replicate m noTransaction)) ≤ length os
@@ -141,14 +143,14 @@ module _ (capacity used : ℕ) (os : List Open) (k : Fit os) (header : headerSiz
   abbrev tb : Table
   tb = tableOf capacity used os
 
-  abbrev zs : List Transaction
-  zs = replicate (transactionPlaces - length os) noTransaction
+  abbrev no-transactions : List Transaction
+  no-transactions = replicate (transactionPlaces - length os) noTransaction
 
   abbrev es : List Enlistment
   es = reenlistments 1 os
 
-  abbrev vs : List Enlistment
-  vs = replicate (enlistmentPlaces - length (reenlistments 1 os)) noEnlistment
+  abbrev no-enlistments : List Enlistment
+  no-enlistments = replicate (enlistmentPlaces - length (reenlistments 1 os)) noEnlistment
 
   of-transactions : (x : Transaction) → x ∈ tb .transactions → (Some (λ o. x ≡ reopened o) os) ⊎ (x ≡ noTransaction)
   unfolding tableOf
@@ -157,28 +159,28 @@ module _ (capacity used : ℕ) (os : List Open) (k : Fit os) (header : headerSiz
       (λ i. inr (of-replicate (transactionPlaces - length os) noTransaction i))
       (List·Memᴰ·append-cases (map reopened os) m)
 
-  of-enlistments : (x : Enlistment) → x ∈ tb .enlistments → StandsAt 1 os zs x ⊎ (x ≡ noEnlistment)
+  of-enlistments : (x : Enlistment) → x ∈ tb .enlistments → StandsAt 1 os no-transactions x ⊎ (x ≡ noEnlistment)
   unfolding tableOf
-  of-enlistments x m = by-either (λ i. inl (of-reenlistments 1 os zs i)) (λ i. inr (of-replicate (enlistmentPlaces - length (reenlistments 1 os)) noEnlistment i)) (List·Memᴰ·append-cases es m)
+  of-enlistments x m = by-either (λ i. inl (of-reenlistments 1 os no-transactions i)) (λ i. inr (of-replicate (enlistmentPlaces - length (reenlistments 1 os)) noEnlistment i)) (List·Memᴰ·append-cases es m)
 
   -- what is held is an entry
-  of-held-ones : (x : Enlistment) → x ∈ tb .enlistments → Held x → StandsAt 1 os zs x
+  of-held-ones : (x : Enlistment) → x ∈ tb .enlistments → Held x → StandsAt 1 os no-transactions x
   of-held-ones x m h = by-either (λ w. w) (λ e. absurd (h (ap (λ (y : Enlistment). y .holder) e))) (of-enlistments x m)
 
   found : (p : ℕ) → Live (transactionAt p tb) → LiveAt 1 p os (transactionAt p tb)
   unfolding tableOf
-  found p l = live-at 1 p os (transactionPlaces - length os) l
+  found p l = live-at 1 p os (transactionPlaces - length os) (transactionAt p tb) refl l
 
   some-place : (p : ℕ) → Live (transactionAt p tb) → p ≡ 0 → ⊥
   some-place p l z = omega (arith, z, found p l .low)
 
-  held-is : (p : ℕ) → (p ≡ 0 → ⊥) → {x : Enlistment} → x ∈ held p tb → StandsAt 1 os zs x
+  held-is : (p : ℕ) → (p ≡ 0 → ⊥) → {x : Enlistment} → x ∈ held p tb → StandsAt 1 os no-transactions x
   held-is p z {x} m = of-held-ones x (of-held p tb m .0) (λ e. z (sym (of-held p tb m .1) ∙ e))
 
-  kind-is : (x : Enlistment) → StandsAt 1 os zs x → Durable x
+  kind-is : (x : Enlistment) → StandsAt 1 os no-transactions x → Durable x
   kind-is x w = ap (λ (y : Enlistment). y .kind) (w .is)
 
-  state-is : (x : Enlistment) → StandsAt 1 os zs x → In enlistment.failedToNotify x
+  state-is : (x : Enlistment) → StandsAt 1 os no-transactions x → In enlistment.failedToNotify x
   state-is x w = ap (λ (y : Enlistment). y .state) (w .is)
 
   well : (p : ℕ) → Live (transactionAt p tb) → HoldsWell (stateAt p tb) (held p tb)
@@ -191,23 +193,23 @@ module _ (capacity used : ℕ) (os : List Open) (k : Fit os) (header : headerSiz
     where
       go : (ds : List Entry) → found p l .o .entries ≡ ds → 0 < length ds → Some (λ x. In enlistment.done x → ⊥) (held p tb)
       go [] q n = absurd (omega arith)
-      go (d ∷ ds) q n = record { it = reenlistment p d; there = in-held p tb (Memᴰ·append-left vs (found p l .entered d (rw q (List·Memᴰ·head refl)))) refl; holds = λ c. omega arith }
+      go (d ∷ ds) q n = record { it = reenlistment p d; there = in-held p tb (Memᴰ·append-left no-enlistments (found p l .entered d (rw q (List·Memᴰ·head refl)))) refl; holds = λ c. omega arith }
 
   held-ones : filter isHeld (tb .enlistments) ≡ es
   unfolding tableOf
-  held-ones = filter-append isHeld es vs
-      ∙ ap (λ l. l ++ filter isHeld vs) (filter-all isHeld es (λ x m. let w : StandsAt 1 os zs x = of-reenlistments 1 os zs m in false-not (ne-eqb (x .holder) 0 (λ z. omega (arith, w .low, sym (ap (λ (y : Enlistment). y .holder) (w .is)) ∙ z)))))
-      ∙ ap (λ l. es ++ l) (filter-none isHeld vs (λ x m. rw (of-replicate (enlistmentPlaces - length (reenlistments 1 os)) noEnlistment m) refl)) ∙ append-nil es
+  held-ones = filter-append isHeld es no-enlistments
+      ∙ ap (λ l. l ++ filter isHeld no-enlistments) (filter-all isHeld es (λ x m. let w : StandsAt 1 os no-transactions x = of-reenlistments 1 os no-transactions m in false-not (ne-eqb (x .holder) 0 (λ z. omega (arith, w .low, sym (ap (λ (y : Enlistment). y .holder) (w .is)) ∙ z)))))
+      ∙ ap (λ l. es ++ l) (filter-none isHeld no-enlistments (λ x m. rw (of-replicate (enlistmentPlaces - length (reenlistments 1 os)) noEnlistment m) refl)) ∙ append-nil es
 
   live-ones : filter isLive (tb .transactions) ≡ map reopened os
   unfolding tableOf
-  live-ones = filter-append isLive (map reopened os) zs
-      ∙ ap (λ l. l ++ filter isLive zs) (filter-all isLive (map reopened os) (λ x m. rw (← of-map reopened os m .holds) refl))
-      ∙ ap (λ l. map reopened os ++ l) (filter-none isLive zs (λ x m. rw (of-replicate (transactionPlaces - length os) noTransaction m) refl)) ∙ append-nil (map reopened os)
+  live-ones = filter-append isLive (map reopened os) no-transactions
+      ∙ ap (λ l. l ++ filter isLive no-transactions) (filter-all isLive (map reopened os) (λ x m. rw (← of-map reopened os m .holds) refl))
+      ∙ ap (λ l. map reopened os ++ l) (filter-none isLive no-transactions (λ x m. rw (of-replicate (transactionPlaces - length os) noTransaction m) refl)) ∙ append-nil (map reopened os)
 
   few : (p : ℕ) → Live (transactionAt p tb) → length (held p tb) ≤ heldMost
   unfolding held tableOf
-  few p l = rw (filter-append (heldBy p) es vs, filter-none (heldBy p) vs (λ x m. rw (of-replicate (enlistmentPlaces - length (reenlistments 1 os)) noEnlistment m) (ne-eqb 0 p (λ z. some-place p l (sym z)))), append-nil (filter (heldBy p) es)) (few-held p 1 os (k .entries))
+  few p l = rw (filter-append (heldBy p) es no-enlistments, filter-none (heldBy p) no-enlistments (λ x m. rw (of-replicate (enlistmentPlaces - length (reenlistments 1 os)) noEnlistment m) (ne-eqb 0 p (λ z. some-place p l (sym z)))), append-nil (filter (heldBy p) es)) (few-held p 1 os (k .entries))
 
   opens : openCount tb ≤ length os
   unfolding openPlaces tableOf
@@ -220,18 +222,18 @@ module _ (capacity used : ℕ) (os : List Open) (k : Fit os) (header : headerSiz
   unfolding tableOf
   reopened-sound = record {
     states = well;
-    kinds = λ x m h. let w : StandsAt 1 os zs x = of-held-ones x m h in (inr (inr (kind-is x w)), omega (arith, ap (λ (y : Enlistment). y .mark) (w .is)));
+    kinds = λ x m h. let w : StandsAt 1 os no-transactions x = of-held-ones x m h in (inr (inr (kind-is x w)), omega (arith, ap (λ (y : Enlistment). y .mark) (w .is)));
     transaction-identifiers = λ x m l. by-either
         (λ s. (ap (λ (y : Transaction). length (y .id .0)) (s .holds) ∙ k .id-sizes (s .it) (s .there), λ e. nonzero (s .it .id) (k .ids (s .it) (s .there)) (sym (ap (λ (y : Transaction). y .id .0) (s .holds)) ∙ e)))
         (λ e. absurd (l (ap (λ (y : Transaction). y .state) e))) (of-transactions x m);
-    manager-identifiers = λ x m h. let w : StandsAt 1 os zs x = of-held-ones x m h in
+    manager-identifiers = λ x m h. let w : StandsAt 1 os no-transactions x = of-held-ones x m h in
         (ap (λ (y : Enlistment). length (y .rm .0)) (w .is) ∙ k .entries (w .o) (w .open-one) .valid (w .d) (w .entry) .rm-size, λ e. nonzero (w .d .rm) (k .entries (w .o) (w .open-one) .managers (w .d) (w .entry)) (sym (ap (λ (y : Enlistment). y .rm .0) (w .is)) ∙ e));
-    numbers = λ x m h. let w : StandsAt 1 os zs x = of-held-ones x m h in
+    numbers = λ x m h. let w : StandsAt 1 os no-transactions x = of-held-ones x m h in
         (λ e. k .entries (w .o) (w .open-one) .numbers (w .d) (w .entry) (sym (ap (λ (y : Enlistment). y .number) (w .is)) ∙ e), rw (ap (λ (y : Enlistment). y .number) (w .is)) (k .entries (w .o) (w .open-one) .valid (w .d) (w .entry) .number-small));
     transactions-differ = rw live-ones (apart-map reopened os (k .ids-apart));
     numbers-differ = rw held-ones (numbers-apart 1 os (k .numbers-apart));
-    holders-live = λ x m h z. let w : StandsAt 1 os zs x = of-held-ones x m h in
-        absurd (omega (arith, sym (ap (λ (y : Transaction). y .state) (ap (λ q. atFrom noTransaction 1 q (map reopened os ++ zs)) (ap (λ (y : Enlistment). y .holder) (w .is)) ∙ w .place)) ∙ z));
+    holders-live = λ x m h z. let w : StandsAt 1 os no-transactions x = of-held-ones x m h in
+        absurd (omega (arith, sym (ap (λ (y : Transaction). y .state) (ap (λ q. atFrom noTransaction 1 q (map reopened os ++ no-transactions)) (ap (λ (y : Enlistment). y .holder) (w .is)) ∙ w .place)) ∙ z));
     managers-differ = rw held-ones (apart-filter isDurable es (managers-apart 1 os (k .entries)));
     few = few;
     phase-zero-unmarked = λ x m h q. ap (λ (y : Enlistment). y .mark) (of-held-ones x m h .is);

@@ -1,5 +1,5 @@
--- A restart makes of a stored log the table that its records tell: each open transaction in Committing, with those that its record
--- names in Failed-to-notify, and no other.
+-- A restart reads the same whole records of which the story is told, and leaves out the same torn one. So its table shows what the stored log tells: each open
+-- transaction in Committing, with those that its record names in Failed-to-notify, and no other.
 use Prim.Native.Nat.{ℕ, zero, suc, _-_, _≤_, _<_}
 use native.Mathlib.Omega.{arith}
 use mathlib.Core.Path.{_≡_, refl, sym, _∙_, ap, ap₂, subst}

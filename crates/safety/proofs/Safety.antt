@@ -1,4 +1,4 @@
--- Demand 3, of the steps and restarts of `rules`.
+-- Demand 3, of the steps and restarts of `rules`: these keep what Top asks of any, by Steps, Restarts and Story.
 use mathlib.Core.Path.{refl}
 use Rattle.rules.specs.Log.{header, scan}
 use Rattle.rules.specs.Sound.{soundOf}

@@ -1,4 +1,5 @@
--- Every accepted step is a move of every transaction: its own move of the one that the event is about, and none of the others.
+-- Every accepted step is a move of every transaction: of the one that the event is about by what was shown of each event, and none of the others, since record,
+-- place, note and messages are about that one.
 use Prim.Native.Nat.{ℕ}
 use native.Mathlib.Omega.{arith}
 use mathlib.Core.Path.{_≡_, refl, sym, _∙_, ap, subst}
@@ -112,13 +113,13 @@ own-all tb e log o f w = record {
     l : Id → Story
     l t = storyOf t (usedPart tb log)
 
-    M : List Note → Id → Type 0
-    M h t = Move t h (noteOf tb e) (map (messageOf tb e) (o .signals)) (l t) (story t (l t) (w .records)) (viewOf t tb) (viewOf t (o .table))
+    Moves : List Note → Id → Type 0
+    Moves h t = Move t h (noteOf tb e) (map (messageOf tb e) (o .signals)) (l t) (story t (l t) (w .records)) (viewOf t tb) (viewOf t (o .table))
 
-    own : (h : List Note) → Makes careful h e → (t : Id) → t ≡ subjectOf tb e → Agrees (viewOf t tb) (l t) → M h t
-    own h made t q a = subst (λ t. Agrees (viewOf t tb) (l t) → M h t) (sym q) (λ a. w .move h made (l (subjectOf tb e)) a) a
+    own : (h : List Note) → Makes careful h e → (t : Id) → t ≡ subjectOf tb e → Agrees (viewOf t tb) (l t) → Moves h t
+    own h made t q a = subst (λ t. Agrees (viewOf t tb) (l t) → Moves h t) (sym q) (λ a. w .move h made (l (subjectOf tb e)) a) a
 
-    other : (h : List Note) (t : Id) → (t ≡ subjectOf tb e → ⊥) → M h t
+    other : (h : List Note) (t : Id) → (t ≡ subjectOf tb e → ⊥) → Moves h t
     other h t n = rw (w .other-story t n (l t), w .other-view t n) (stay refl (calm-other t (noteOf tb e) (subjectOf tb e) (λ q. n (q ∙ noted-subject (e .act) (e .tx .0) (e .rm .0) tb))) (quiet-other t tb e (o .signals) n (w .addressed)))
 
 -- a finished re-enlistment is about no single transaction
@@ -172,13 +173,13 @@ module _ (tb : Table) (x : TxId) (y : RmId) (log : List ℕ) (f : Formed (usedPa
 
   -- an event about one enlistment
   reacted : (n : ℕ) (a : Act) (c : checks.Accepted tb (event a) (length log)) → eqb n 0 ≡ false → not (isNumberHeld n tb) ≡ false → isRefused (reactionOf (numbered n tb .kind) (numbered n tb .state) a) ≡ false
-      → (nm : Named tb n) → subjectOf tb (event a) ≡ ownerOf n tb → Reacts tb log n (sound a c) (full a c) nm x y a (reactionOf (numbered n tb .kind) (numbered n tb .state) a)
+      → (named : Named tb n) → subjectOf tb (event a) ≡ ownerOf n tb → Reacts tb log n (sound a c) (full a c) named x y a (reactionOf (numbered n tb .kind) (numbered n tb .state) a)
       → Moved tb (event a) log (reactedOf n a tb log)
   unfolding reactedOf
-  reacted n a c nz h ok nm about r = own-all tb (event a) log _ f (rw about (r .gives ok))
+  reacted n a c nonzero h ok named about r = own-all tb (event a) log _ f (rw about (r .gives ok))
 
   one : (n : ℕ) (a : Act) (c : checks.Accepted tb (event a) (length log)) → eqb n 0 ≡ false → not (isNumberHeld n tb) ≡ false → Named tb n
-  one n a c nz h = named-sound tb (sound a c) n (eqb-false n 0 nz) (not-false (isNumberHeld n tb) h)
+  one n a c nonzero h = named-sound tb (sound a c) n (eqb-false n 0 nonzero) (not-false (isNumberHeld n tb) h)
 
   moved : (a : Act) → checks.Accepted tb (event a) (length log) → Moved tb (event a) log (acted a (x .0) (y .0) tb log)
   unfolding acted namesZero isNotLive isNotHeld isAlreadyLive isStateWrong isReactionRefused isFull isOneOf any
@@ -187,17 +188,17 @@ module _ (tb : Table) (x : TxId) (y : RmId) (log : List ℕ) (f : Formed (usedPa
   moved (act.Enlist n k m) c = own-all tb (event (act.Enlist n k m)) log _ f (own-enlist tb log (sound (act.Enlist n k m) c) x y (eqb-false place 0 (c .live)) n k m
       (early-state (c .state-right)) (not-false (any isVacant (tb .enlistments)) (false-or (none isVacant (tb .enlistments)) (leb heldMost (length (held place tb))) (c .not-full) .0)))
   moved act.Commit c = own-all tb (event act.Commit) log _ f (own-commit tb log (sound act.Commit c) x y (eqb-false place 0 (c .live)) (eqb-true (stateAt place tb) transaction.active (not-false (eqb (stateAt place tb) transaction.active) (c .state-right))))
-  moved (act.ZeroDone n) c = let nm : Named tb n = one n (act.ZeroDone n) c (c .zero-not-named) (c .number-held) in
-      reacted n (act.ZeroDone n) c (c .zero-not-named) (c .number-held) (c .reaction-not-refused) nm refl (reacts-zero-done tb log n (sound (act.ZeroDone n) c) (full (act.ZeroDone n) c) nm x y)
-  moved (act.Vote n v) c = let nm : Named tb n = one n (act.Vote n v) c (c .zero-not-named) (c .number-held) in
-      reacted n (act.Vote n v) c (c .zero-not-named) (c .number-held) (c .reaction-not-refused) nm refl (reacts-vote tb log n (sound (act.Vote n v) c) (full (act.Vote n v) c) nm x y v)
+  moved (act.ZeroDone n) c = let named : Named tb n = one n (act.ZeroDone n) c (c .zero-not-named) (c .number-held) in
+      reacted n (act.ZeroDone n) c (c .zero-not-named) (c .number-held) (c .reaction-not-refused) named refl (reacts-zero-done tb log n (sound (act.ZeroDone n) c) (full (act.ZeroDone n) c) named x y)
+  moved (act.Vote n v) c = let named : Named tb n = one n (act.Vote n v) c (c .zero-not-named) (c .number-held) in
+      reacted n (act.Vote n v) c (c .zero-not-named) (c .number-held) (c .reaction-not-refused) named refl (reacts-vote tb log n (sound (act.Vote n v) c) (full (act.Vote n v) c) named x y v)
   moved act.Rollback c = own-all tb (event act.Rollback) log _ f (own-rollback tb log (sound act.Rollback c) x y (eqb-false place 0 (c .live)) (early-state (c .state-right)))
-  moved (act.Reply n r) c = let nm : Named tb n = one n (act.Reply n r) c (c .zero-not-named) (c .number-held) in
-      reacted n (act.Reply n r) c (c .zero-not-named) (c .number-held) (c .reaction-not-refused) nm refl (reacts-reply tb log n (sound (act.Reply n r) c) (full (act.Reply n r) c) nm x y r)
-  moved (act.Ack n) c = let nm : Named tb n = one n (act.Ack n) c (c .zero-not-named) (c .number-held) in
-      reacted n (act.Ack n) c (c .zero-not-named) (c .number-held) (c .reaction-not-refused) nm refl (reacts-ack tb log n (sound (act.Ack n) c) (full (act.Ack n) c) nm x y)
-  moved (act.Lost n) c = let nm : Named tb n = one n (act.Lost n) c (c .zero-not-named) (c .number-held) in
-      reacted n (act.Lost n) c (c .zero-not-named) (c .number-held) (c .reaction-not-refused) nm refl (reacts-to-lost tb log n (sound (act.Lost n) c) (full (act.Lost n) c) nm x y)
+  moved (act.Reply n r) c = let named : Named tb n = one n (act.Reply n r) c (c .zero-not-named) (c .number-held) in
+      reacted n (act.Reply n r) c (c .zero-not-named) (c .number-held) (c .reaction-not-refused) named refl (reacts-reply tb log n (sound (act.Reply n r) c) (full (act.Reply n r) c) named x y r)
+  moved (act.Ack n) c = let named : Named tb n = one n (act.Ack n) c (c .zero-not-named) (c .number-held) in
+      reacted n (act.Ack n) c (c .zero-not-named) (c .number-held) (c .reaction-not-refused) named refl (reacts-ack tb log n (sound (act.Ack n) c) (full (act.Ack n) c) named x y)
+  moved (act.Lost n) c = let named : Named tb n = one n (act.Lost n) c (c .zero-not-named) (c .number-held) in
+      reacted n (act.Lost n) c (c .zero-not-named) (c .number-held) (c .reaction-not-refused) named refl (reacts-to-lost tb log n (sound (act.Lost n) c) (full (act.Lost n) c) named x y)
   moved act.Ask c = own-all tb (event act.Ask) log _ f (own-ask tb log (sound act.Ask c) x y)
   moved act.Reenlisted c = reenlisted-all tb x y log (sound act.Reenlisted c) (full act.Reenlisted c) f
 

@@ -1,4 +1,5 @@
--- Demand 3 follows from what has to be shown of a step and of a restart: each keeps, of every transaction alone, what is always true.
+-- Demand 3 follows from what has to be shown of a step and of a restart: each keeps, of every transaction alone, what is always true; and so does a run of them, one
+-- after the other.
 use Prim.Native.Nat.{ℕ}
 use native.Mathlib.Omega.{arith}
 use mathlib.Core.Path.{_≡_, refl, sym, _∙_, ap}
@@ -12,8 +13,6 @@ use Rattle.lists.specs.Members.{_∈_, Some}
 use Rattle.rules.specs.declared.Table.{Table}
 use Rattle.rules.specs.declared.Event.{Event}
 use Rattle.rules.specs.declared.Name.{Name}
-use Rattle.rules.specs.declared.Vote.the-variants as vote
-use Rattle.rules.specs.Kinds as kind
 use Rattle.rules.specs.Sound.{Durable}
 use Rattle.rules.specs.Identifiers.{Id}
 use Rattle.rules.specs.Log.{Entry}
@@ -25,7 +24,7 @@ use Rattle.safety.specs.Run.{Run, start, step, store, trim, leave, resta
 use Rattle.rules.specs.Signals.{Committed, Aborted}
 use Rattle.safety.specs.Demand3.{Safe, Demand3}
 use Rattle.safety.proofs.Alone.{Story, none, open-with, bad, Below, below-trans, below-both, View, out, early, voting, single, committing, aborting, NoDurable, Entered, Any, Base, Shape}
-use Rattle.safety.proofs.Move.{Calm, Quiet, Move, keep-base, keep-shape, make-stay, stay-shape}
+use Rattle.safety.proofs.Move.{nothing-calm, Quiet, Move, keep-base, keep-shape, make-stay, stay-shape}
 use Rattle.safety.proofs.Cut.{Restored, keep-store, keep-leave, shape-leave, keep-restart, shape-restart}
 
 -- ── what has to be shown ────────────────────────────────────────────────────────────────────────────────────────
@@ -104,17 +103,8 @@ module _ (R : Refines) where
     pub stored : Stored (w .disk)
     pub base : BaseOf w (λ t. storyOf t (w .disk))
 
-  abbrev pub Inv : World → Type 0
-  Inv w = Alive w ⊎ Dead w
-
-  nothing-calm : (t : Id) → Calm t Note.nothing
-  nothing-calm t = record { not-enlisted = λ n r k p. never p; not-prepared = λ r p. never₂ (p .1) }
-    where
-      never : {n : ℕ} {r : Id} {k : ℕ} → Note.nothing ≡ Note.enlisted t n r k → ⊥
-      never p = let z : _≡_ {A = ℕ} 0 1 = cc in omega arith
-
-      never₂ : {n : ℕ} {r : Id} → Note.nothing ≡ Note.voted t n r kind.durable vote.Prepared → ⊥
-      never₂ p = let z : _≡_ {A = ℕ} 0 1 = cc in omega arith
+  abbrev pub Always : World → Type 0
+  Always w = Alive w ⊎ Dead w
 
   silent-quiet : (t : Id) → Quiet t []
   silent-quiet t = record { no-committed = λ m. List·Memᴰ·not-nil (m .there); no-aborted = λ m. List·Memᴰ·not-nil (m .there) }
@@ -159,10 +149,10 @@ module _ (R : Refines) where
       move : (t : Id) → Move t (w .notes) (noteOf (w .table) e) (map (messageOf (w .table) e) (s .signals)) (storyOf t (usedPart (w .table) (w .log))) (storyOf t (usedPart (s .table) (s .log))) (viewOf t (w .table)) (viewOf t (s .table))
       move t = f .moves (w .notes) made t (agrees t (viewOf t (w .table)) (storyOf t (usedPart (w .table) (w .log))) (w .notes) (w .waiting) (w .sent) (w .issued) (a .shape t))
 
-  stepped : (w : World) (e : Event) → (stepOf (w .table) e (w .log) .refusal ≡ 0 → Makes careful (w .notes) e) → Inv w → Inv (afterStep w (w .table) e (stepOf (w .table) e (w .log)))
+  stepped : (w : World) (e : Event) → (stepOf (w .table) e (w .log) .refusal ≡ 0 → Makes careful (w .notes) e) → Always w → Always (afterStep w (w .table) e (stepOf (w .table) e (w .log)))
   stepped w e made i = go (eqb (stepOf (w .table) e (w .log) .refusal) 0) refl i
     where
-      go : (b : Bool) → eqb (stepOf (w .table) e (w .log) .refusal) 0 ≡ b → Inv w → Inv (afterStep w (w .table) e (stepOf (w .table) e (w .log)))
+      go : (b : Bool) → eqb (stepOf (w .table) e (w .log) .refusal) 0 ≡ b → Always w → Always (afterStep w (w .table) e (stepOf (w .table) e (w .log)))
       go true r (inl a) = inl (accepted-alive w e (stepOf (w .table) e (w .log)) r (made (eqb-true (stepOf (w .table) e (w .log) .refusal) 0 r)) (accepts (w .table) e (w .log) r (a .formed)) a)
       go true r (inr d) = absurd (false≢true (sym (zero-unsound (w .table) (d .none-used)) ∙ needs-sound (w .table) e (w .log) r))
       go false r (inl a) = inl (refused-alive w e (stepOf (w .table) e (w .log)) r (refuses (w .table) e (w .log) r) a)
@@ -200,7 +190,7 @@ module _ (R : Refines) where
   -- a trimmed log tells what it told
   trimmed-alive : (w : World) (disk : List ℕ) → Trimmed w disk → Alive w → Alive (withDisk disk w)
   unfolding withDisk
-  trimmed-alive w disk (nz, a, rest, p, q) l = record {
+  trimmed-alive w disk (used, a, rest, p, q) l = record {
     formed = l .formed;
     stored = record { rest = rest ++ l .stored .rest; whole = rw (sym (append-assoc disk rest (l .stored .rest)) ∙ ap (λ k. k ++ l .stored .rest) q) (l .stored .whole) };
     base = λ t. rw (same t) (l .base t);
@@ -211,17 +201,17 @@ module _ (R : Refines) where
       same t = below-both (storyOf t disk) (storyOf t (w .disk)) (rw q at (story-prefix t disk rest))
           (below-trans (storyOf t (w .disk)) (storyOf t (usedPart (w .table) (w .log))) (storyOf t disk) (l .base t .below) (rw p (story-prefix t (usedPart (w .table) (w .log)) a)))
 
-  stored-inv : (w : World) (disk : List ℕ) → MoreStored w disk → Inv w → Inv (withDisk disk w)
+  stored-inv : (w : World) (disk : List ℕ) → MoreStored w disk → Always w → Always (withDisk disk w)
   stored-inv w disk m (inl a) = inl (stored-alive w disk m a)
   stored-inv w disk m (inr d) = inr (stored-dead w disk m d)
 
-  trimmed-inv : (w : World) (disk : List ℕ) → Trimmed w disk → Inv w → Inv (withDisk disk w)
+  trimmed-inv : (w : World) (disk : List ℕ) → Trimmed w disk → Always w → Always (withDisk disk w)
   trimmed-inv w disk m (inl a) = inl (trimmed-alive w disk m a)
   trimmed-inv w disk m (inr d) = absurd (m .0 (d .none-used))
 
   -- ── leaving ───────────────────────────────────────────────────────────────────────────────────────────────────
 
-  left-inv : (w : World) (i : Issued) → i ∈ w .waiting → (rest : List ℕ) → w .disk ≡ i .image ++ rest → Inv w → Inv (afterLeaving i w)
+  left-inv : (w : World) (i : Issued) → i ∈ w .waiting → (rest : List ℕ) → w .disk ≡ i .image ++ rest → Always w → Always (afterLeaving i w)
   unfolding afterLeaving
   left-inv w i m rest p (inl a) = inl (record {
     formed = a .formed;
@@ -237,15 +227,15 @@ module _ (R : Refines) where
 
   -- ── restarting ────────────────────────────────────────────────────────────────────────────────────────────────
 
-  stored-of : (w : World) → Inv w → Stored (w .disk)
+  stored-of : (w : World) → Always w → Stored (w .disk)
   stored-of w (inl a) = a .stored
   stored-of w (inr d) = d .stored
 
-  base-restart : (w : World) → Inv w → (t : Id) → Base t (storyOf t) (storyOf t (w .disk)) (storyOf t (w .disk)) (w .notes) [] (w .sent) (w .issued)
+  base-restart : (w : World) → Always w → (t : Id) → Base t (storyOf t) (storyOf t (w .disk)) (storyOf t (w .disk)) (w .notes) [] (w .sent) (w .issued)
   base-restart w (inl a) t = keep-restart t (storyOf t) (storyOf t (usedPart (w .table) (w .log))) (storyOf t (w .disk)) (w .notes) (w .issued) (w .waiting) (w .sent) (a .base t)
   base-restart w (inr d) t = keep-restart t (storyOf t) (storyOf t (w .disk)) (storyOf t (w .disk)) (w .notes) (w .issued) (w .waiting) (w .sent) (d .base t)
 
-  restart-alive : (w : World) (s : Restart) → Restores viewOf storyOf Formed (w .disk) s → Inv w → Alive (afterRestart w s)
+  restart-alive : (w : World) (s : Restart) → Restores viewOf storyOf Formed (w .disk) s → Always w → Alive (afterRestart w s)
   unfolding afterRestart
   restart-alive w s f i = record {
     formed = f .formed;
@@ -254,20 +244,20 @@ module _ (R : Refines) where
     shape = λ t. rw (f .same-story t) (shape-restart t (storyOf t) (storyOf t (w .disk)) (storyOf t (w .disk)) (w .notes) (w .issued) [] (w .sent) (base-restart w i t) (viewOf t (s .table)) (f .restored t));
   }
 
-  restart-dead : (w : World) (s : Restart) → s .table .used ≡ 0 → Inv w → Dead (afterRestart w s)
+  restart-dead : (w : World) (s : Restart) → s .table .used ≡ 0 → Always w → Dead (afterRestart w s)
   unfolding afterRestart
   restart-dead w s u i = record { none-used = u; stored = stored-of w i; base = base-restart w i }
 
-  restarted : (w : World) (spare : List ℕ) → Inv w → Inv (afterRestart w (restartOf (w .disk ++ spare) (length (w .disk))))
+  restarted : (w : World) (spare : List ℕ) → Always w → Always (afterRestart w (restartOf (w .disk ++ spare) (length (w .disk))))
   restarted w spare i = go (eqb (restartOf (w .disk ++ spare) (length (w .disk)) .refusal) 0) refl
     where
-      go : (b : Bool) → eqb (restartOf (w .disk ++ spare) (length (w .disk)) .refusal) 0 ≡ b → Inv (afterRestart w (restartOf (w .disk ++ spare) (length (w .disk))))
+      go : (b : Bool) → eqb (restartOf (w .disk ++ spare) (length (w .disk)) .refusal) 0 ≡ b → Always (afterRestart w (restartOf (w .disk ++ spare) (length (w .disk))))
       go true r = inl (restart-alive w (restartOf (w .disk ++ spare) (length (w .disk))) (restart-accepts (w .disk) spare (stored-of w i .rest) (stored-of w i .whole) r) i)
       go false r = inr (restart-dead w (restartOf (w .disk ++ spare) (length (w .disk))) (restart-refuses (w .disk ++ spare) (length (w .disk)) r) i)
 
   -- ── the whole ─────────────────────────────────────────────────────────────────────────────────────────────────
 
-  empty-inv : Inv empty
+  empty-inv : Always empty
   unfolding empty
   empty-inv = inr (record {
     none-used = refl;
@@ -300,21 +290,21 @@ module _ (R : Refines) where
       no-ask : {t r : Id} → MayAsk t r [] → ⊥
       no-ask m = elim m [ ]
 
-  pub inv : {w : World} → Run careful w → Inv w
-  inv start = empty-inv
-  inv (step {w} r e tb log (p, q) made) = rw (p, q) (stepped w e (rw (p, q) at made) (inv r))
-  inv (store {w} r disk m) = stored-inv w disk m (inv r)
-  inv (trim {w} r disk m) = trimmed-inv w disk m (inv r)
-  inv (leave {w} r i m (rest, p)) = left-inv w i m rest p (inv r)
-  inv (restart {w} r log n (spare, p, q)) = rw (p, q) (restarted w spare (inv r))
+  pub always : {w : World} → Run careful w → Always w
+  always start = empty-inv
+  always (step {w} r e tb log (p, q) made) = rw (p, q) (stepped w e (rw (p, q) at made) (always r))
+  always (store {w} r disk m) = stored-inv w disk m (always r)
+  always (trim {w} r disk m) = trimmed-inv w disk m (always r)
+  always (leave {w} r i m (rest, p)) = left-inv w i m rest p (always r)
+  always (restart {w} r log n (spare, p, q)) = rw (p, q) (restarted w spare (always r))
 
   safe-base : (w : World) (l : Id → Story) → BaseOf w l → Safe w
   safe-base w l b = record { never-both = λ t c a. b t .both (inr c) (inr a); only-if = λ t c. b t .good-committed (inr c) }
 
-  safe-inv : (w : World) → Inv w → Safe w
+  safe-inv : (w : World) → Always w → Safe w
   safe-inv w (inl a) = safe-base w (λ t. storyOf t (usedPart (w .table) (w .log))) (a .base)
   safe-inv w (inr d) = safe-base w (λ t. storyOf t (w .disk)) (d .base)
 
   pub demand3 : Demand3
   unfolding Demand3
-  demand3 w r = safe-inv w (inv r)
+  demand3 w r = safe-inv w (always r)

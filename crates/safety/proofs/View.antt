@@ -1,4 +1,5 @@
--- How a table shows a transaction, and that a change of one shows in its own view and in no other.
+-- A table shows a transaction by what stands at its place. No two stand at one place, and what is held names the place: so that a change at one place shows in the
+-- view of the transaction there, and in no other.
 use Prim.Native.Nat.{ℕ, zero, suc}
 use native.Mathlib.Omega.{arith}
 use mathlib.Core.Path.{_≡_, refl, sym, _∙_, ap}
@@ -84,7 +85,7 @@ state-held p q g tb = refl
 
 module _ (t : Id) (p : ℕ) (tb : Table) (s : Stands t p tb) where
   pub view-goes : (n : ℕ) (g : Enlistment → Enlistment) → (n ≡ 0 → ⊥) → viewOf t (goTo p n (changeHeld p g tb)) ≡ look n (held p (changeHeld p g tb))
-  view-goes n g nz = view-stands t p (goTo p n (changeHeld p g tb)) (stands-goes t p n (changeHeld p g tb) at nz)
+  view-goes n g nonzero = view-stands t p (goTo p n (changeHeld p g tb)) (stands-goes t p n (changeHeld p g tb) at nonzero)
       ∙ rw (state-goes t p n (changeHeld p g tb) at, held-transaction p p (inTransactionState n) (changeHeld p g tb)) refl
     where
       at : Stands t p (changeHeld p g tb)
