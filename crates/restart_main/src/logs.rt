@@ -8,7 +8,7 @@ const ENTRY: u16 = sizes::ENTRY as u16;
 
 const IDENTIFIER: u16 = sizes::IDENTIFIER as u16;
 
-pub fn put(log: &mut [u8], at: usize, b: u8) {
+fn put(log: &mut [u8], at: usize, b: u8) {
     if at < log.len() {
         log[at] = b;
     }
@@ -27,26 +27,6 @@ pub fn up(first: u32, j: u8) -> u32 {
     }
 }
 
-pub fn header(log: &mut [u8]) {
-    put(log, 0, 0x52);
-    put(log, 1, 0x54);
-    put(log, 2, 0x4C);
-    put(log, 3, 1);
-}
-
-// 4,096 bytes, with the header and nothing behind it.
-pub fn empty() -> [u8; 4096] {
-    let mut log = [0u8; 4096];
-    header(&mut log);
-    log
-}
-
-// The last byte of an identifier; the others are zero.
-fn identifier(log: &mut [u8], at: usize, last: u8) {
-    let end = plus(at, 15);
-    put(log, end, last);
-}
-
 fn number(log: &mut [u8], at: usize, n: u32) {
     let bytes = basics::low_of(n);
     let mut i: u16 = 0;
@@ -56,6 +36,17 @@ fn number(log: &mut [u8], at: usize, n: u32) {
         put(log, place, bytes[k]);
         i += 1;
     }
+}
+
+// `RTL` and version 1, as one number; the other four bytes are zero.
+pub fn header(log: &mut [u8]) {
+    number(log, 0, 0x014C5452);
+}
+
+// The last byte of an identifier; the others are zero.
+fn identifier(log: &mut [u8], at: usize, last: u8) {
+    let end = plus(at, 15);
+    put(log, end, last);
 }
 
 // Numbers and resource managers go up by one from entry to entry.
@@ -68,13 +59,18 @@ fn entry(log: &mut [u8], at: usize, j: u8, first: u32, rm: u8) {
     number(log, behind, n);
 }
 
-// A commit record of t with n entries; gives the place behind it.
-pub fn commit(log: &mut [u8], at: usize, t: u8, n: u8, first: u32, rm: u8) -> usize {
-    put(log, at, 1);
+// The first 18 bytes of a record.
+fn beginning(log: &mut [u8], at: usize, tag: u8, n: u8, t: u8) {
+    put(log, at, tag);
     let second = plus(at, 1);
     put(log, second, n);
     let name = plus(at, 2);
     identifier(log, name, t);
+}
+
+// A commit record of t with n entries; gives the place behind it.
+pub fn commit(log: &mut [u8], at: usize, t: u8, n: u8, first: u32, rm: u8) -> usize {
+    beginning(log, at, 1, n, t);
     let mut j: u8 = 0;
     while j < n {
         entry(log, at, j, first, rm);
@@ -84,17 +80,42 @@ pub fn commit(log: &mut [u8], at: usize, t: u8, n: u8, first: u32, rm: u8) -> us
 }
 
 pub fn forget(log: &mut [u8], at: usize, t: u8) -> usize {
-    put(log, at, 2);
-    let name = plus(at, 2);
-    identifier(log, name, t);
+    beginning(log, at, 2, 0, t);
     plus(at, RECORD)
 }
 
-// A forget record where there are no entries.
-pub fn record(log: &mut [u8], at: usize, t: u8, n: u8, first: u32, rm: u8) -> usize {
-    let forgets = n == 0;
-    if forgets {
-        return forget(log, at, t);
+// ---- Of 4,096 bytes.
+
+pub struct Made {
+    pub log: [u8; 4096],
+    // Behind its last record.
+    pub end: usize,
+}
+
+// With the header and nothing behind it.
+pub fn empty() -> Made {
+    let mut log = [0u8; 4096];
+    header(&mut log);
+    Made { log: log, end: 8 }
+}
+
+pub fn with_byte(made: Made, at: usize, b: u8) -> Made {
+    let mut log = made.log;
+    put(&mut log, at, b);
+    Made {
+        log: log,
+        end: made.end,
     }
-    commit(log, at, t, n, first, rm)
+}
+
+pub fn with_commit(made: Made, t: u8, n: u8, first: u32, rm: u8) -> Made {
+    let mut log = made.log;
+    let end = commit(&mut log, made.end, t, n, first, rm);
+    Made { log: log, end: end }
+}
+
+pub fn with_forget(made: Made, t: u8) -> Made {
+    let mut log = made.log;
+    let end = forget(&mut log, made.end, t);
+    Made { log: log, end: end }
 }

@@ -3,10 +3,14 @@
 mod logs;
 mod shown;
 
+use logs::Made;
+
 fn main() {
     headers();
     wrong_headers();
     capacities();
+    large(65536);
+    large(65537);
     beginnings();
     zeros();
     open_or_not();
@@ -19,19 +23,22 @@ fn main() {
 }
 
 // 0xEE in the place of each byte of the header from the n-th on.
-fn spoil(log: &mut [u8], n: u8) {
+fn spoilt(n: u8) -> Made {
+    let mut made = logs::empty();
     let mut i = n;
     while i < 8 {
-        logs::put(log, i as usize, 0xEE);
+        let other = logs::with_byte(made, i as usize, 0xEE);
+        made = other;
         i += 1;
     }
+    made
 }
 
 // The first n bytes of the header alone.
 fn begun(n: u8) {
-    let mut log = logs::empty();
-    spoil(&mut log, n);
-    shown::restarted(b"header ", n as u64, &mut log, 64, n as usize);
+    let made = spoilt(n);
+    shown::say(b"header ");
+    shown::restarted(made, n as u64, 64, n as usize);
 }
 
 fn headers() {
@@ -44,16 +51,12 @@ fn headers() {
 
 // One wrong byte in the header: all of it stored, and stored to that byte.
 fn wrong(i: u8) {
-    let mut log = logs::empty();
-    logs::put(&mut log, i as usize, 9);
-    shown::restarted(b"wrong header byte ", i as u64, &mut log, 64, 8);
-    shown::restarted(
-        b"wrong and short ",
-        i as u64,
-        &mut log,
-        64,
-        (i as usize) + 1,
-    );
+    let made = logs::empty();
+    let other = logs::with_byte(made, i as usize, 9);
+    shown::say(b"wrong header byte ");
+    shown::restarted(other, i as u64, 64, 8);
+    shown::say(b"wrong and short ");
+    shown::restarted(other, i as u64, 64, (i as usize) + 1);
 }
 
 fn wrong_headers() {
@@ -64,36 +67,33 @@ fn wrong_headers() {
     }
 }
 
-fn small(which: &[u8], case: u64, capacity: usize, stored: usize) {
-    let mut log = logs::empty();
-    shown::restarted(which, case, &mut log, capacity, stored);
+fn small(case: u64, capacity: usize, stored: usize) {
+    let made = logs::empty();
+    shown::restarted(made, case, capacity, stored);
+}
+
+fn capacities() {
+    shown::say(b"capacity ");
+    small(7, 7, 0);
+    shown::say(b"capacity ");
+    small(8, 8, 0);
+    shown::say(b"stored above ");
+    small(9, 8, 9);
 }
 
 fn large(capacity: u32) {
     let mut log = [0u8; 65537];
-    shown::restarted(
-        b"capacity ",
-        capacity as u64,
-        &mut log,
-        capacity as usize,
-        0,
-    );
-}
-
-fn capacities() {
-    small(b"capacity ", 7, 7, 0);
-    small(b"capacity ", 8, 8, 0);
-    small(b"stored above ", 9, 8, 9);
-    large(65536);
-    large(65537);
+    shown::say(b"capacity ");
+    shown::outcome(&mut log, capacity as u64, capacity as usize, 0);
 }
 
 // The bytes that no record begins with, and those that one does: n of them are stored.
 fn beginning(a: u8, b: u8, n: u16) {
-    let mut log = logs::empty();
-    logs::put(&mut log, 8, a);
-    logs::put(&mut log, 9, b);
-    shown::restarted(b"first ", a as u64, &mut log, 400, 8 + (n as usize));
+    let made = logs::empty();
+    let first = logs::with_byte(made, 8, a);
+    let both = logs::with_byte(first, 9, b);
+    shown::say(b"first ");
+    shown::restarted(both, a as u64, 400, 8 + (n as usize));
 }
 
 fn beginnings() {
@@ -113,69 +113,86 @@ fn beginnings() {
     beginning(1, 16, 338);
 }
 
-fn judged(which: &[u8], log: &mut [u8], end: usize) {
-    shown::restarted(which, end as u64, log, 4096, end);
+// Stored to its end.
+fn judged(made: Made) {
+    let end = made.end;
+    shown::restarted(made, end as u64, 4096, end);
+}
+
+// The commit record of 7, with the numbers 1 and 2 and the resource managers 21 and 22.
+fn seven() -> Made {
+    let made = logs::empty();
+    logs::with_commit(made, 7, 2, 1, 21)
 }
 
 // A commit record of t with two entries, numbers from first on and resource managers 21 and 22; one byte is then put otherwise.
-fn two(which: &[u8], t: u8, first: u32, at: usize, b: u8) {
-    let mut log = logs::empty();
-    let end = logs::commit(&mut log, 8, t, 2, first, 21);
-    logs::put(&mut log, at, b);
-    judged(which, &mut log, end);
+fn two(t: u8, first: u32, at: usize, b: u8) {
+    let made = logs::empty();
+    let one = logs::with_commit(made, t, 2, first, 21);
+    let other = logs::with_byte(one, at, b);
+    judged(other);
 }
 
 fn zeros() {
-    two(b"fine ", 7, 1, 8, 1);
-    two(b"zero transaction ", 0, 1, 8, 1);
-    two(b"zero manager ", 7, 1, 41, 0);
-    two(b"zero number ", 7, 0, 8, 1);
+    shown::say(b"fine ");
+    two(7, 1, 8, 1);
+    shown::say(b"zero transaction ");
+    two(0, 1, 8, 1);
+    shown::say(b"zero manager ");
+    two(7, 1, 41, 0);
+    shown::say(b"zero number ");
+    two(7, 0, 8, 1);
 }
 
 // Behind the commit record of 7: another, or a forget record.
-fn committed(which: &[u8], t: u8, first: u32) {
-    let mut log = logs::empty();
-    let end = logs::commit(&mut log, 8, 7, 2, 1, 21);
-    let last = logs::commit(&mut log, end, t, 2, first, 21);
-    judged(which, &mut log, last);
+fn committed(t: u8, first: u32) {
+    let made = seven();
+    let last = logs::with_commit(made, t, 2, first, 21);
+    judged(last);
 }
 
-fn forgotten(which: &[u8], t: u8) {
-    let mut log = logs::empty();
-    let end = logs::commit(&mut log, 8, 7, 2, 1, 21);
-    let last = logs::forget(&mut log, end, t);
-    judged(which, &mut log, last);
+fn forgotten(t: u8) {
+    let made = seven();
+    let last = logs::with_forget(made, t);
+    judged(last);
 }
 
 fn forgotten_twice() {
-    let mut log = logs::empty();
-    let end = logs::commit(&mut log, 8, 7, 2, 1, 21);
-    let again = logs::forget(&mut log, end, 7);
-    let last = logs::forget(&mut log, again, 7);
-    judged(b"forgotten twice ", &mut log, last);
+    let made = seven();
+    let once = logs::with_forget(made, 7);
+    let twice = logs::with_forget(once, 7);
+    judged(twice);
 }
 
 fn open_or_not() {
-    committed(b"commit of an open one ", 7, 3);
-    forgotten(b"forget of one not open ", 8);
-    forgotten(b"forget of zero ", 0);
+    shown::say(b"commit of an open one ");
+    committed(7, 3);
+    shown::say(b"forget of one not open ");
+    forgotten(8);
+    shown::say(b"forget of zero ");
+    forgotten(0);
+    shown::say(b"forgotten twice ");
     forgotten_twice();
 }
 
 fn numbers_and_managers() {
-    two(b"not ascending ", 7, 1, 42, 2);
-    two(b"the same number again ", 7, 1, 62, 1);
-    committed(b"number of another open record ", 8, 2);
-    two(b"a manager twice ", 7, 1, 61, 21);
+    shown::say(b"not ascending ");
+    two(7, 1, 42, 2);
+    shown::say(b"the same number again ");
+    two(7, 1, 62, 1);
+    shown::say(b"number of another open record ");
+    committed(8, 2);
+    shown::say(b"a manager twice ");
+    two(7, 1, 61, 21);
 }
 
 // The first commit record is whole; then a commit record and a forget record, of which the first n bytes of the log are stored.
 fn cut(n: u8) {
-    let mut log = logs::empty();
-    let end = logs::commit(&mut log, 8, 7, 2, 1, 21);
-    let last = logs::commit(&mut log, end, 8, 2, 3, 21);
-    logs::forget(&mut log, last, 7);
-    shown::restarted(b"cut at ", n as u64, &mut log, 4096, n as usize);
+    let made = seven();
+    let one = logs::with_commit(made, 8, 2, 3, 21);
+    let last = logs::with_forget(one, 7);
+    shown::say(b"cut at ");
+    shown::restarted(last, n as u64, 4096, n as usize);
 }
 
 fn torn() {
@@ -187,92 +204,85 @@ fn torn() {
 }
 
 // A commit record, and the forget record behind it as far as it is stored.
-fn limited(which: &[u8], capacity: u8, stored: u8) {
-    let mut log = logs::empty();
-    let end = logs::commit(&mut log, 8, 7, 2, 1, 21);
-    logs::forget(&mut log, end, 7);
-    shown::restarted(
-        which,
-        capacity as u64,
-        &mut log,
-        capacity as usize,
-        stored as usize,
-    );
+fn limited(capacity: u8, stored: u8) {
+    let made = seven();
+    let last = logs::with_forget(made, 7);
+    shown::restarted(last, capacity as u64, capacity as usize, stored as usize);
 }
 
 fn full() {
-    limited(b"room for its forget record ", 84, 66);
-    limited(b"one byte too few ", 83, 66);
-    limited(b"no room at all ", 66, 66);
-    limited(b"exactly full ", 84, 84);
-    limited(b"torn and full ", 83, 83);
+    shown::say(b"room for its forget record ");
+    limited(84, 66);
+    shown::say(b"one byte too few ");
+    limited(83, 66);
+    shown::say(b"no room at all ");
+    limited(66, 66);
+    shown::say(b"exactly full ");
+    limited(84, 84);
+    shown::say(b"torn and full ");
+    limited(83, 83);
 }
 
-// Reopened transactions, and numbers used again, one record behind the other; with no entries it is a forget record.
-fn reopened(log: &mut [u8]) {
-    let transactions = [7u8, 5, 7, 6, 7, 6, 8, 8];
-    let entries = [2u8, 1, 0, 2, 1, 0, 1, 0];
-    let numbers = [1u32, 3, 0, 1, 9, 0, 4294967295, 0];
-    let managers = [21u8, 21, 0, 31, 21, 0, 21, 0];
-    let mut end: usize = 8;
-    let mut i: usize = 0;
-    while i < 8 {
-        end = logs::record(
-            log,
-            end,
-            transactions[i],
-            entries[i],
-            numbers[i],
-            managers[i],
-        );
-        i += 1;
-    }
-}
-
-// Stored up to the end of one of them.
-fn stored_to(which: &[u8], end: usize) {
-    let mut log = logs::empty();
-    reopened(&mut log);
-    judged(which, &mut log, end);
+// Reopened transactions, and numbers used again: eight records, stored up to the end of one of them.
+fn stored_to(end: usize) {
+    let made = seven();
+    let five = logs::with_commit(made, 5, 1, 3, 21);
+    let ended = logs::with_forget(five, 7);
+    let six = logs::with_commit(ended, 6, 2, 1, 31);
+    let again = logs::with_commit(six, 7, 1, 9, 21);
+    let without = logs::with_forget(again, 6);
+    let eight = logs::with_commit(without, 8, 1, 4294967295, 21);
+    let last = logs::with_forget(eight, 8);
+    shown::restarted(last, end as u64, 4096, end);
 }
 
 fn order() {
-    stored_to(b"one is left ", 122);
-    stored_to(b"numbers again ", 180);
-    stored_to(b"reopened ", 218);
-    stored_to(b"the middle one ends ", 236);
-    stored_to(b"largest number ", 274);
-    stored_to(b"and forgotten ", 292);
+    shown::say(b"one is left ");
+    stored_to(122);
+    shown::say(b"numbers again ");
+    stored_to(180);
+    shown::say(b"reopened ");
+    stored_to(218);
+    shown::say(b"the middle one ends ");
+    stored_to(236);
+    shown::say(b"largest number ");
+    stored_to(274);
+    shown::say(b"and forgotten ");
+    stored_to(292);
 }
 
-fn more_entries(which: &[u8], log: &mut [u8], end: usize, number: u32, more: u8) {
+fn more_entries(made: Made, number: u32, more: u8) {
     if 0 < more {
-        let last = logs::commit(log, end, 200, more, number, 1);
-        judged(which, log, last);
+        let last = logs::with_commit(made, 200, more, number, 1);
+        judged(last);
     } else {
-        judged(which, log, end);
+        judged(made);
     }
 }
 
 // So many open transactions, each with so many entries; then one more with the entries that are left.
-fn opened(which: &[u8], transactions: u8, each: u8, more: u8) {
-    let mut log = logs::empty();
-    let mut end: usize = 8;
+fn opened(transactions: u8, each: u8, more: u8) {
+    let mut made = logs::empty();
     let mut number: u32 = 1;
     let mut t: u8 = 0;
     while t < transactions {
         t += 1;
-        end = logs::commit(&mut log, end, t, each, number, 1);
+        let one = logs::with_commit(made, t, each, number, 1);
+        made = one;
         number = logs::up(number, each);
     }
-    more_entries(which, &mut log, end, number, more);
+    more_entries(made, number, more);
 }
 
 fn most() {
-    opened(b"open ", 32, 1, 0);
-    opened(b"open ", 33, 1, 0);
-    opened(b"entries ", 8, 16, 0);
-    opened(b"entries ", 8, 16, 1);
+    shown::say(b"open ");
+    opened(32, 1, 0);
+    shown::say(b"open ");
+    opened(33, 1, 0);
+    shown::say(b"entries ");
+    opened(8, 16, 0);
+    shown::say(b"entries ");
+    opened(8, 16, 1);
 }
 
 // Closed records nearly to the end of the largest log, and an open one behind them.
@@ -287,5 +297,6 @@ fn many() {
         k += 1;
     }
     end = logs::commit(&mut log, end, 7, 16, 1, 21);
-    shown::restarted(b"many closed ", end as u64, &mut log, 65536, end);
+    shown::say(b"many closed ");
+    shown::outcome(&mut log, end as u64, 65536, end);
 }

@@ -1,4 +1,5 @@
 // What a restart gave, as a line.
+use crate::logs::Made;
 use libc::STDOUT_FILENO;
 use rules::Enlistment;
 use rules::Restarted;
@@ -6,7 +7,7 @@ use rules::Row;
 use rules::Table;
 use rules::Transaction;
 
-fn say(words: &[u8]) {
+pub fn say(words: &[u8]) {
     io::write_all(STDOUT_FILENO, words);
 }
 
@@ -81,13 +82,17 @@ fn held(table: Table, p: u8) {
     }
 }
 
+fn named(last: u64, state: u64) {
+    count(b"; ", last);
+    count(b" in ", state);
+}
+
 fn row(table: Table, x: Transaction, p: u8) {
     let live = x.state != 0;
     let t = x.id;
     let id = t.0;
     if live {
-        count(b"; ", wide(id[15]));
-        count(b" in ", wide(x.state));
+        named(wide(id[15]), wide(x.state));
         held(table, p);
     }
 }
@@ -124,25 +129,26 @@ fn list(table: Table) {
     }
 }
 
-fn numbers(t: Table, different: u64) {
-    let d = dispenser::dispenser_after(t);
-    count(b" used ", t.used as u64);
-    count(b" of ", t.capacity as u64);
+fn numbers(used: u32, capacity: u32, different: u64, first: u32) {
+    count(b" used ", used as u64);
+    count(b" of ", capacity as u64);
     count(b" changed ", different);
-    count(b" next ", d.next as u64);
+    count(b" next ", first as u64);
 }
 
-fn told(which: &[u8], case: u64, r: Restarted, different: u64) {
+fn told(case: u64, r: Restarted, different: u64) {
     let t = r.table;
-    count(which, case);
+    let d = dispenser::dispenser_after(t);
+    io::print_decimal(STDOUT_FILENO, case);
     count(b": ", wide(r.refusal));
-    numbers(t, different);
+    numbers(t.used, t.capacity, different, d.next);
     rows(t);
     list(t);
     say(b"\n");
 }
 
-pub fn restarted(which: &[u8], case: u64, log: &mut [u8], capacity: usize, stored: usize) {
+// Behind the words that say which it is.
+pub fn outcome(log: &mut [u8], case: u64, capacity: usize, stored: usize) {
     if log.len() < capacity {
         return;
     }
@@ -153,5 +159,10 @@ pub fn restarted(which: &[u8], case: u64, log: &mut [u8], capacity: usize, store
     bytes::copy(log, &mut kept);
     let r = restart::restart(&mut log[..capacity], stored);
     let different = changed(&kept, log, capacity);
-    told(which, case, r, different);
+    told(case, r, different);
+}
+
+pub fn restarted(made: Made, case: u64, capacity: usize, stored: usize) {
+    let mut lent = made.log;
+    outcome(&mut lent, case, capacity, stored);
 }

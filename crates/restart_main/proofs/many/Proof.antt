@@ -10,8 +10,8 @@ pub many-spec : {M : Type 1} → statement M
 many-spec =
     tie.close
     (tie.spec
-    (λ log₀ end₀ k₀ t9 log end k. length log ≡ 65536)
-    (λ log₀ end₀ k₀ t9 log end k. 1161 - k)
+    (λ log₀ end₀ k₀ t5 log end k. length log ≡ 65536)
+    (λ log₀ end₀ k₀ t5 log end k. 1161 - k)
     (λ c. search needs)
     (λ c κs. search needs)
     (λ c. search needs)
@@ -25,6 +25,7 @@ many-spec =
     (λ c. search needs)
     (λ c κs. search needs)
     (λ c. search needs)
+    (λ c κs. search needs)
     (λ c. search needs)
     (λ c κs. search needs)
     (λ c. search needs))

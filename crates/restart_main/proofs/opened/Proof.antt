@@ -1,8 +1,6 @@
--- Each turn goes on by one, and a record leaves the log as long as it was.
+-- Each turn goes on by one, up to the number of transactions.
 use Prim.Native.Nat.{_≤_, _-_}
-use mathlib.Core.Path.{_≡_}
 use borrow.Author.Needs.{needs}
-use lib.ListN.{length}
 use Rattle.restart_main.proofs.opened.Statement.{statement}
 use Rattle.restart_main.proofs.opened.Tie as tie
 
@@ -10,15 +8,13 @@ pub opened-spec : {M : Type 1} → statement M
 opened-spec =
     tie.close
     (tie.spec
-    (λ which transactions each more log₀ end₀ number₀ t₀ log end number t. (length log ≡ 4096) × (t ≤ transactions))
-    (λ which transactions each more log₀ end₀ number₀ t₀ log end number t. transactions - t)
+    (λ transactions each more made₀ number₀ t₀ made number t. t ≤ transactions)
+    (λ transactions each more made₀ number₀ t₀ made number t. transactions - t)
     (λ c κs. search needs)
     (λ c. search needs)
     (λ c. search needs)
-    (λ c. search needs)
     (λ c κs. search needs)
     (λ c κs. search needs)
-    (λ c. search needs)
     (λ c. search needs)
     (λ c. search needs)
     (λ c κs. search needs)

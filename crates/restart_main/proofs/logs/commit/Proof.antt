@@ -10,12 +10,8 @@ pub commit-spec : {M : Type 1} → statement M
 commit-spec =
     tie.close
     (tie.spec
-    (λ log₀ at t n first rm second name j₀ log j. length log ≡ length log₀)
-    (λ log₀ at t n first rm second name j₀ log j. n - j)
-    (λ c κs. search needs)
-    (λ c κs. search needs)
-    (λ c κs. search needs)
-    (λ c κs. search needs)
+    (λ log₀ at t n first rm j₀ log j. length log ≡ length log₀)
+    (λ log₀ at t n first rm j₀ log j. n - j)
     (λ c κs. search needs)
     (λ c. search needs)
     (λ c κs. search needs)

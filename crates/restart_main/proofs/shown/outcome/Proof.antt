@@ -5,11 +5,11 @@ use mathlib.Core.Path.{sym}
 use borrow.Author.Needs.{needs}
 use lib.ListN.{length}
 use lib.Seq.{length-take-le}
-use Rattle.restart_main.proofs.shown.restarted.Statement.{statement}
-use Rattle.restart_main.proofs.shown.restarted.Tie as tie
+use Rattle.restart_main.proofs.shown.outcome.Statement.{statement}
+use Rattle.restart_main.proofs.shown.outcome.Tie as tie
 
-pub restarted-spec : {M : Type 1} → statement M
-restarted-spec =
+pub outcome-spec : {M : Type 1} → statement M
+outcome-spec =
     tie.close
     (tie.spec
     (λ c. search needs)
@@ -17,7 +17,7 @@ restarted-spec =
     (λ c. search needs)
     (λ c κs. search needs)
     (λ c. search needs)
-    (λ c. sym (length-take-le _ _ (let h : c .before .before .before .before .before .before .before .before .before .args .capacity ≤ length (c .before .before .before .before .before .before .before .before .before .args .log .now) = omega arith in h)))
+    (λ c. sym (length-take-le _ _ (let h : c .before .before .before .before .before .before .before .before .args .capacity ≤ length (c .before .before .before .before .before .before .before .before .args .log .now) = omega arith in h)))
     (λ c κs. search needs)
     (λ c. search needs)
     (λ c κs. search needs)
