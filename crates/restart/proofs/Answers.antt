@@ -22,11 +22,12 @@ use Rattle.log_reader.specs.Reading.{bytesAt}
 use Rattle.log_reader.proofs.Scanning.{bytes-are}
 use Rattle.open_records.specs.Opening.{startsOf, opensOf}
 use Rattle.open_records.proofs.Rows.{opens-long}
-use Rattle.restart.specs.declared.Readings.{Readings}
+use Rattle.read_records.specs.declared.Readings.{Readings}
+use Rattle.read_records.specs.Readback.{bodyOf, Read}
 use Rattle.places.specs.Empty.{emptyTable}
 use Rattle.reopening.specs.Reopened.{transactionsPut, enlistmentsPut}
 use Rattle.reopening.proofs.Building.{table-is}
-use Rattle.restart.specs.Readback.{bodyOf, Read, refusedAs, doneWith}
+use Rattle.restart.specs.Answers.{refusedAs, doneWith}
 
 -- ── behind the header ───────────────────────────────────────────────────────────────────────────────────────────
 

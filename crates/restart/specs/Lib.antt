@@ -1,1 +1,1 @@
-pub mod Readback
+pub mod Answers

@@ -6,8 +6,8 @@ ghost use Prim.Native.Nat.{_≤_};
 ghost use lib.Dec.{ltb};
 ghost use Rattle.rules.specs.Sizes.{headerSize, leastCapacity, largestCapacity};
 ghost use Rattle.rules.specs.Restart.{IsRestart, readBack, restartedOf};
-ghost use Rattle.restart.specs.Readback.{bodyOf, Read, refusedAs, doneWith};
-use open_records::OpenRecords;
+ghost use Rattle.read_records.specs.Readback.{bodyOf};
+ghost use Rattle.restart.specs.Answers.{refusedAs, doneWith};
 use rules::Restarted;
 use rules::Table;
 use rules::refusal;
@@ -22,13 +22,6 @@ const RECORD: usize = sizes::RECORD as usize;
 const LEAST_CAPACITY: usize = sizes::LEAST_CAPACITY as usize;
 
 const LARGEST_CAPACITY: usize = sizes::LARGEST_CAPACITY as usize;
-
-// What reading the records gave.
-struct Readings {
-    damaged: bool,
-    used: usize,
-    records: OpenRecords,
-}
 
 // ---- Answers.
 
@@ -51,45 +44,13 @@ fn done(table: Table) -> Restarted
     }
 }
 
-// ---- Reading.
-
-// The whole records, up to the first that is torn or none at all, or that is not as it must be.
-fn read_records(log: &[u8], stored: usize) -> Readings
-    requires { do ⌜ (headerSize ≤ stored) × (stored ≤ (← ⟦log.len()⟧)) ⌝ }
-    ensures { λ r. ⌜ Read (now (log .entry)) stored r ⌝ }
-{
-    let mut records = open_records::none_open();
-    let mut at: usize = HEADER;
-    loop {
-        let size = log_reader::whole_at(log, stored, at);
-        if size == 0 {
-            let none = log_reader::none_at(log, stored, at);
-            return Readings {
-                damaged: none,
-                used: at,
-                records: records,
-            };
-        }
-        let fits = fitting::is_fitting(log, records, at);
-        if fits {
-            let next = open_records::open_behind(log, records, at);
-            records = next;
-            at += size;
-        } else {
-            return Readings {
-                damaged: true,
-                used: 0,
-                records: records,
-            };
-        }
-    }
-}
+// ---- Behind the header.
 
 fn read_back(log: &[u8], stored: usize) -> Restarted
     requires { do ⌜ (headerSize ≤ stored) × (stored ≤ (← ⟦log.len()⟧)) × ((← ⟦log.len()⟧) ≤ largestCapacity) ⌝ }
     ensures { λ r. ⌜ r ≡ restartedOf (readBack (bodyOf (now (log .entry)) stored) (now (log .entry))) ⌝ }
 {
-    let read = read_records(log, stored);
+    let read = read_records::read_records(log, stored);
     let damaged = read.damaged;
     if damaged {
         return refused(refusal::DAMAGED_LOG);

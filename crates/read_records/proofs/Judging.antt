@@ -20,8 +20,8 @@ use Rattle.open_records.specs.declared.OpenRecords.{OpenRecords}
 use Rattle.open_records.specs.Opening.{startsOf, opensOf, noneOpen, openBehind}
 use Rattle.open_records.proofs.Rows.{opens-long}
 use Rattle.open_records.proofs.Following.{Long, behind-long, behind-opens}
-use Rattle.restart.specs.declared.Readings.{Readings}
-use Rattle.restart.specs.Readback.{bodyOf, Read}
+use Rattle.read_records.specs.declared.Readings.{Readings}
+use Rattle.read_records.specs.Readback.{bodyOf, Read}
 
 -- ── how many are open ───────────────────────────────────────────────────────────────────────────────────────────
 

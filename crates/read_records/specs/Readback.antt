@@ -1,18 +1,14 @@
--- What the parts of a restart give: helpers of the code, of which the rules say the whole.
+-- What reading the records gives: where it stopped, and what is open there.
 use Prim.Native.Nat.{ℕ, _≤_}
 use mathlib.Core.Path.{_≡_}
 use mathlib.Core.Bool.{false}
 use mathlib.Core.List.{List, []}
 use lib.ListN.{length, take, drop}
-use Rattle.rules.specs.declared.Table.{Table}
-use Rattle.rules.specs.declared.Restarted.{Restarted}
-use Rattle.rules.specs.RefusalNumber as refusal
 use Rattle.rules.specs.Sizes.{transactionPlaces, enlistmentPlaces, headerSize}
-use Rattle.rules.specs.Table.{zeroTable}
 use Rattle.rules.specs.Log.{scan}
 use Rattle.rules.specs.Restart.{entriesOpen, openAfter, usedOf, isDamaged}
 use Rattle.open_records.specs.Opening.{opensOf}
-use Rattle.restart.specs.declared.Readings.{Readings}
+use Rattle.read_records.specs.declared.Readings.{Readings}
 
 -- the stored bytes behind the header
 abbrev pub bodyOf : List ℕ → ℕ → List ℕ
@@ -29,9 +25,3 @@ pub record Undamaged (log : List ℕ) (stored : ℕ) (r : Readings) : Type 0 whe
 pub record Read (log : List ℕ) (stored : ℕ) (r : Readings) : Type 0 where
   pub damage : r .damaged ≡ isDamaged (bodyOf log stored)
   pub else : r .damaged ≡ false → Undamaged log stored r
-
-abbrev pub refusedAs : ℕ → Restarted
-refusedAs why = record { refusal = why; table = zeroTable }
-
-abbrev pub doneWith : Table → Restarted
-doneWith tb = record { refusal = refusal.accepted; table = tb }

@@ -4,9 +4,9 @@ use native.Mathlib.Omega.{arith}
 use mathlib.Core.Path.{refl, sym, _∙_}
 use borrow.Author.Needs.{needs}
 use Rattle.log_reader.proofs.Scanning.{whole-within}
-use Rattle.restart.proofs.Judging.{Reading, reading-start, reading-again, reading-unfit, reading-done}
-use Rattle.restart.proofs.read_records.Statement.{statement}
-use Rattle.restart.proofs.read_records.Tie as tie
+use Rattle.read_records.proofs.Judging.{Reading, reading-start, reading-again, reading-unfit, reading-done}
+use Rattle.read_records.proofs.read_records.Statement.{statement}
+use Rattle.read_records.proofs.read_records.Tie as tie
 
 pub read-records-spec : {M : Type 1} → statement M
 read-records-spec =

@@ -1,0 +1,48 @@
+// Reading the records of a log, from behind its header on.
+
+ghost use Prim.Native.Nat.{_≤_};
+ghost use Rattle.rules.specs.Sizes.{headerSize};
+ghost use Rattle.read_records.specs.Readback.{Read};
+use open_records::OpenRecords;
+use rules::sizes;
+
+const HEADER: usize = sizes::HEADER as usize;
+
+// What reading the records gave.
+pub struct Readings {
+    pub damaged: bool,
+    pub used: usize,
+    pub records: OpenRecords,
+}
+
+// The whole records, up to the first that is torn or none at all, or that is not as it must be.
+pub fn read_records(log: &[u8], stored: usize) -> Readings
+    requires { do ⌜ (headerSize ≤ stored) × (stored ≤ (← ⟦log.len()⟧)) ⌝ }
+    ensures { λ r. ⌜ Read (now (log .entry)) stored r ⌝ }
+{
+    let mut records = open_records::none_open();
+    let mut at: usize = HEADER;
+    loop {
+        let size = log_reader::whole_at(log, stored, at);
+        if size == 0 {
+            let none = log_reader::none_at(log, stored, at);
+            return Readings {
+                damaged: none,
+                used: at,
+                records: records,
+            };
+        }
+        let fits = fitting::is_fitting(log, records, at);
+        if fits {
+            let next = open_records::open_behind(log, records, at);
+            records = next;
+            at += size;
+        } else {
+            return Readings {
+                damaged: true,
+                used: 0,
+                records: records,
+            };
+        }
+    }
+}
