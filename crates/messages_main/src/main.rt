@@ -2,11 +2,20 @@
 // as MS-DTYP (section 2.3.4.2) lays it out: its first three fields low byte first, then eight bytes as they are printed. (The four words
 // that section 4 prints beside a GUID have its ninth and tenth byte exchanged.)
 // A line is what the reader makes of a vector, and then what the writer makes of the reader's message in 58 bytes of ee.
+ghost use Prim.Native.Nat.{_≤_, _<_};
+use message_fields::CONNECTION_AT;
+use message_fields::LENGTH_AT;
+use message_fields::MASTER_AT;
+use message_fields::RESERVED_AT;
+use message_fields::TAG_AT;
+use message_fields::TYPE_AT;
 use rules::Message;
 use rules::RmId;
 use rules::SessionId;
 use rules::TxId;
+use rules::Written;
 use rules::message_type;
+use rules::sizes::IDENTIFIER;
 
 // Section 4.2.3, PARTNERTM_BRANCH_MTAG_BRANCHING: MsgTag, fIsMaster, dwConnectionId, dwUserMsgType, dwcbVarLenData, dwReserved1, and
 // guidTx 4046037e-9722-46c9-9883-99062341cb35.
@@ -25,21 +34,40 @@ const CREATE: [u8; 56] =
 const ANSWER: [u8; 24] =
     *b"\xff\x0f\x00\x00\x00\x00\x00\x00\x04\x03\x02\x01\x12\x20\x00\x00\x00\x00\x00\x00\xff\xff\xff\xff";
 
+// Further bytes of the fields.
+const TAG_SECOND: usize = TAG_AT + 1;
+
+const TAG_LAST: usize = TAG_AT + 3;
+
+const MASTER_LAST: usize = MASTER_AT + 3;
+
+const CONNECTION_LAST: usize = CONNECTION_AT + 3;
+
+const TYPE_SECOND: usize = TYPE_AT + 1;
+
+const TYPE_LAST: usize = TYPE_AT + 3;
+
+const LENGTH_LAST: usize = LENGTH_AT + 3;
+
+const RESERVED_LAST: usize = RESERVED_AT + 3;
+
 // ---- A line.
 
-fn wide(byte: u8) -> u64 {
-    byte as u64
-}
+// Room for any message, and two bytes more.
+const ROOM: usize = 58;
+
+// What the writer is lent.
+const UNWRITTEN: u8 = 0xee;
 
 fn print_bytes(bytes: &[u8]) {
     let mut i: usize = 0;
     while i < bytes.len() {
-        io::print_hex(1, wide(bytes[i]), 2);
+        io::print_hex(1, basics::wide(bytes[i]) as u64, 2);
         i += 1;
     }
 }
 
-fn print_identifier(name: &[u8], id: [u8; 16]) {
+fn print_identifier(name: &[u8], id: [u8; IDENTIFIER]) {
     io::write_all(1, name);
     print_bytes(&id);
 }
@@ -54,14 +82,24 @@ fn print_number(name: &[u8], n: u64) {
     io::print_decimal(1, n);
 }
 
-fn print_message(m: Message) {
+// Many short functions, here and below: what a function costs to prove grows faster than the calls in it.
+fn print_header(m: Message) {
     print_number(b" master ", m.master as u64);
     print_field(b" connection ", m.connection);
+}
+
+fn print_type(m: Message) {
     print_field(b" type ", m.kind);
     print_field(b" reserved ", m.reserved);
+}
+
+fn print_transaction(m: Message) {
     let tx = m.tx;
-    let tx_id = tx.0;
-    print_identifier(b" tx ", tx_id);
+    let id = tx.0;
+    print_identifier(b" tx ", id);
+}
+
+fn print_manager(m: Message) {
     let rm = m.rm;
     let rm_id = rm.0;
     print_identifier(b" rm ", rm_id);
@@ -70,13 +108,28 @@ fn print_message(m: Message) {
     print_identifier(b" session ", session_id);
 }
 
-fn show_written(m: Message, memory: &mut [u8]) {
-    let w = messages::write_message(m, memory);
+fn print_message(m: Message) {
+    print_header(m);
+    print_type(m);
+    print_transaction(m);
+    print_manager(m);
+}
+
+fn print_written(w: Written) {
     print_number(b" written ", w.refusal as u64);
     print_number(b" length ", w.length as u64);
+}
+
+fn print_memory(memory: &[u8]) {
     io::write_all(1, b" memory ");
     print_bytes(memory);
     io::write_all(1, b"\n");
+}
+
+fn show_written(m: Message, memory: &mut [u8]) {
+    let w = messages::write_message(m, memory);
+    print_written(w);
+    print_memory(memory);
 }
 
 fn show(name: &[u8], bytes: &[u8]) {
@@ -85,8 +138,31 @@ fn show(name: &[u8], bytes: &[u8]) {
     print_number(b" read ", r.refusal as u64);
     let m = r.message;
     print_message(m);
-    let mut memory = [0xeeu8; 58];
+    let mut memory = [UNWRITTEN; ROOM];
     show_written(m, &mut memory);
+}
+
+// The vectors above, with another byte, another type, or less of it.
+fn branching_with(name: &[u8], at: usize, b: u8)
+    requires { ⌜ at < 40 ⌝ }
+{
+    let mut v = BRANCHING;
+    v[at] = b;
+    show(name, &v);
+}
+
+fn answer_of(name: &[u8], low: u8, high: u8) {
+    let mut v = ANSWER;
+    v[TYPE_AT] = low;
+    v[TYPE_SECOND] = high;
+    show(name, &v);
+}
+
+fn branching_part(name: &[u8], size: usize)
+    requires { ⌜ size ≤ 40 ⌝ }
+{
+    let v = BRANCHING;
+    show(name, &v[..size]);
 }
 
 // ---- The vectors that are messages: the samples of section 4, one of each other type, and any connection and reserved.
@@ -96,29 +172,34 @@ fn samples() {
     show(b"create-rm", &CREATE);
 }
 
-fn other_types() {
-    let mut request = BRANCHING;
-    request[12] = 0x11;
-    show(b"commit-request", &request);
-    request[12] = 0x21;
-    show(b"check-abort", &request);
-    let mut answer = ANSWER;
-    show(b"commit-request-done", &answer);
-    answer[12] = 0x13;
-    show(b"commit-retry", &answer);
-    answer[12] = 0x22;
-    show(b"check-aborted", &answer);
-    answer[12] = 0x23;
-    show(b"check-retry", &answer);
+fn requests() {
+    branching_with(b"commit-request", TYPE_AT, 0x11);
+    branching_with(b"check-abort", TYPE_AT, 0x21);
 }
 
-fn kept_fields() {
+fn answers() {
+    answer_of(b"commit-request-done", 0x12, 0x20);
+    answer_of(b"commit-retry", 0x13, 0x20);
+    answer_of(b"check-aborted", 0x22, 0x20);
+    answer_of(b"check-retry", 0x23, 0x20);
+}
+
+fn other_connection() -> [u8; 40] {
     let mut v = BRANCHING;
-    v[8] = 0xff;
-    v[11] = 0x80;
+    v[CONNECTION_AT] = 0xff;
+    v[CONNECTION_LAST] = 0x80;
+    v
+}
+
+fn connection_kept() {
+    let v = other_connection();
     show(b"connection-kept", &v);
-    v[20] = 0;
-    v[23] = 0x01;
+}
+
+fn reserved_kept() {
+    let mut v = other_connection();
+    v[RESERVED_AT] = 0;
+    v[RESERVED_LAST] = 0x01;
     show(b"reserved-kept", &v);
 }
 
@@ -126,83 +207,65 @@ fn kept_fields() {
 
 fn wrong_tag() {
     // Section 4.1 prints the tag of some samples so; section 2.2.4.1 decides.
-    let mut v = BRANCHING;
-    v[1] = 0;
-    show(b"tag-000000ff", &v);
-    v[0] = 0xfe;
-    v[1] = 0x0f;
-    show(b"tag-00000ffe", &v);
-    v[0] = 0xff;
-    v[3] = 0x01;
-    show(b"tag-01000fff", &v);
+    branching_with(b"tag-000000ff", TAG_SECOND, 0);
+    branching_with(b"tag-00000ffe", TAG_AT, 0xfe);
+    branching_with(b"tag-01000fff", TAG_LAST, 0x01);
 }
 
 fn wrong_master() {
-    let mut v = BRANCHING;
-    v[4] = 2;
-    show(b"master-2", &v);
-    v[4] = 1;
-    v[7] = 1;
-    show(b"master-01000001", &v);
+    branching_with(b"master-2", MASTER_AT, 2);
+    branching_with(b"master-01000001", MASTER_LAST, 1);
+}
+
+// Sections 4.2.3 and 4.4.1 have these two, which are not of the eight.
+fn unknown_type() {
+    answer_of(b"type-2052", 0x52, 0x20);
+    answer_of(b"type-1053", 0x53, 0x10);
 }
 
 fn wrong_type() {
-    // Sections 4.2.3 and 4.4.1 have these two, which are not of the eight.
-    let mut answer = ANSWER;
-    answer[12] = 0x52;
-    show(b"type-2052", &answer);
-    answer[12] = 0x53;
-    answer[13] = 0x10;
-    show(b"type-1053", &answer);
-    let mut v = BRANCHING;
-    v[15] = 1;
-    show(b"type-01002051", &v);
-    v[15] = 0;
-    v[12] = 0x12;
-    show(b"type-of-no-payload", &v);
-    v[12] = 0x51;
-    v[13] = 0x10;
-    show(b"type-of-32-bytes", &v);
+    branching_with(b"type-01002051", TYPE_LAST, 1);
+    branching_with(b"type-of-no-payload", TYPE_AT, 0x12);
+    branching_with(b"type-of-32-bytes", TYPE_SECOND, 0x10);
 }
 
 fn wrong_payload_length() {
-    let mut v = BRANCHING;
-    v[16] = 0x0f;
-    show(b"length-15", &v);
-    v[16] = 0x20;
-    show(b"length-32", &v);
-    v[16] = 0x10;
-    v[19] = 1;
-    show(b"length-01000010", &v);
+    branching_with(b"length-15", LENGTH_AT, 0x0f);
+    branching_with(b"length-32", LENGTH_AT, 0x20);
+    branching_with(b"length-01000010", LENGTH_LAST, 1);
 }
 
 // ---- The vectors that are none: as many bytes as they say, or not, but not those of their type.
 
 fn wrong_size() {
-    let branching = BRANCHING;
-    show(b"empty", &branching[..0]);
-    show(b"23-bytes", &branching[..23]);
-    show(b"header-alone", &branching[..24]);
-    show(b"one-short", &branching[..39]);
-    let create = CREATE;
-    show(b"create-rm-one-short", &create[..55]);
-    let mut long = CREATE;
-    long[13] = 0x20;
-    long[16] = 0x10;
-    show(b"one-long", &long[..41]);
+    branching_part(b"empty", 0);
+    branching_part(b"23-bytes", 23);
+    branching_part(b"header-alone", 24);
+    branching_part(b"one-short", 39);
+}
+
+fn create_one_short() {
+    let v = CREATE;
+    show(b"create-rm-one-short", &v[..55]);
+}
+
+fn one_long() {
+    let mut v = CREATE;
+    v[TYPE_SECOND] = 0x20;
+    v[LENGTH_AT] = 0x10;
+    show(b"one-long", &v[..41]);
+}
+
+fn branching_of_56() {
+    let mut v = CREATE;
+    v[TYPE_SECOND] = 0x20;
+    show(b"branching-of-56", &v);
 }
 
 fn wrong_payload() {
-    let mut branching = CREATE;
-    branching[13] = 0x20;
-    show(b"branching-of-56", &branching);
-    let mut done = BRANCHING;
-    done[12] = 0x12;
-    show(b"done-of-40", &done);
-    let mut create = ANSWER;
-    create[12] = 0x51;
-    create[13] = 0x10;
-    show(b"create-rm-of-24", &create);
+    branching_of_56();
+    branching_with(b"done-of-40", TYPE_AT, 0x12);
+    answer_of(b"create-rm-of-24", 0x51, 0x10);
 }
 
 // ---- The writer: its room, and messages that could not be read back.
@@ -219,62 +282,89 @@ fn branching_message() -> Message {
 
 fn rooms() {
     let m = branching_message();
-    let mut enough = [0xeeu8; 40];
+    let mut enough = [UNWRITTEN; 40];
     written(b"room-of-40", m, &mut enough);
-    let mut few = [0xeeu8; 39];
+    let mut few = [UNWRITTEN; 39];
     written(b"room-of-39", m, &mut few);
-    let mut none = [0xeeu8; 0];
+    let mut none = [UNWRITTEN; 0];
     written(b"no-room", m, &mut none);
 }
 
-fn unwritable() {
+fn of_type(name: &[u8], kind: u32) {
     let mut m = branching_message();
-    let mut memory = [0xeeu8; 58];
-    m.kind = 0x2014;
-    written(b"unknown-type", m, &mut memory);
-    m.kind = message_type::BRANCH;
+    m.kind = kind;
+    let mut memory = [UNWRITTEN; ROOM];
+    written(name, m, &mut memory);
+}
+
+fn of_master_2() {
+    let mut m = branching_message();
     m.master = 2;
+    let mut memory = [UNWRITTEN; ROOM];
     written(b"write-master-2", m, &mut memory);
 }
 
+fn unwritable() {
+    of_type(b"unknown-type", 0x2014);
+    of_master_2();
+}
+
+fn with_rm() {
+    let mut m = branching_message();
+    let rm = RmId([7u8; IDENTIFIER]);
+    m.rm = rm;
+    let mut memory = [UNWRITTEN; ROOM];
+    written(b"branching-with-rm", m, &mut memory);
+}
+
+fn with_session() {
+    let mut m = branching_message();
+    let session = SessionId([7u8; IDENTIFIER]);
+    m.session = session;
+    let mut memory = [UNWRITTEN; ROOM];
+    written(b"branching-with-session", m, &mut memory);
+}
+
 fn foreign_fields() {
-    let mut memory = [0xeeu8; 58];
-    let mut with_rm = branching_message();
-    let rm = RmId([7u8; 16]);
-    with_rm.rm = rm;
-    written(b"branching-with-rm", with_rm, &mut memory);
-    let mut with_session = branching_message();
-    let session = SessionId([7u8; 16]);
-    with_session.session = session;
-    written(b"branching-with-session", with_session, &mut memory);
-    let mut create = branching_message();
-    create.kind = message_type::CREATE_RM;
-    written(b"create-rm-with-tx", create, &mut memory);
-    let mut done = branching_message();
-    done.kind = message_type::COMMIT_REQUEST_DONE;
-    written(b"done-with-tx", done, &mut memory);
+    with_rm();
+    with_session();
+    of_type(b"create-rm-with-tx", message_type::CREATE_RM);
+    of_type(b"done-with-tx", message_type::COMMIT_REQUEST_DONE);
 }
 
 // Zeros are no breach in a field that the type has.
 fn zero_fields() {
-    let mut memory = [0xeeu8; 58];
     let mut create = branching_message();
     create.kind = message_type::CREATE_RM;
-    let tx = TxId([0u8; 16]);
+    let tx = TxId([0u8; IDENTIFIER]);
     create.tx = tx;
+    let mut memory = [UNWRITTEN; ROOM];
     written(b"create-rm-of-zeros", create, &mut memory);
 }
 
-fn main() {
+fn read() {
     samples();
-    other_types();
-    kept_fields();
+    requests();
+    answers();
+    connection_kept();
+    reserved_kept();
+}
+
+fn refused() {
     wrong_tag();
     wrong_master();
+    unknown_type();
     wrong_type();
     wrong_payload_length();
     wrong_size();
+    create_one_short();
+    one_long();
     wrong_payload();
+}
+
+fn main() {
+    read();
+    refused();
     rooms();
     unwritable();
     foreign_fields();

@@ -11,10 +11,10 @@ use Rattle.trace_parts.specs.Puts.{Puts, outputMost}
 use Rattle.trace_run.specs.declared.Left.{Left}
 use Rattle.trace_run.specs.Promises.{ObeysIn}
 use Rattle.rows.specs.Memory.{tableIn}
-use Rattle.trace.specs.declared.Session.{Session}
+use Rattle.trace_session.specs.declared.Session.{Session}
 use Rattle.trace.specs.Program.{answered}
 use Rattle.trace.specs.Sessions.{Ready, Answers}
-use Rattle.trace.proofs.Memory.{put-long, put-taken}
+use Rattle.trace_session.proofs.Memory.{put-long, put-taken}
 use Rattle.trace.proofs.Kept.{traced-kept}
 
 module _ {t : Traced} {before after log : List ℕ} {heads rows : List (List ℕ)} {o : Left} (p : ObeysIn t before o heads rows log after) (l : length before ≡ outputMost) where

@@ -5,9 +5,10 @@ use mathlib.Core.Path.{_≡_, sym, ap, _∙_}
 use mathlib.Core.List.{List}
 use lib.ListN.{length, take, length-take}
 use borrow.Author.Tests.{eq-eqb, ne-eqb}
-use Rattle.trace.specs.declared.Session.{Session}
+use Rattle.trace_session.specs.declared.Session.{Session}
 use Rattle.trace.specs.Program.{Stand, afterAll}
-use Rattle.trace.specs.Sessions.{Stands, Ready, Answers, Finishes, lineKept}
+use Rattle.trace_session.specs.Counts.{lineKept}
+use Rattle.trace.specs.Sessions.{Stands, Ready, Answers, Finishes}
 
 kept-all : {w : Stand} {s : Session} {heads rows : List (List ℕ)} {log line output : List ℕ} → Ready s heads rows line output → Stands w s heads rows log line output
     → s .kept ≡ length (take lineKept (w .line))

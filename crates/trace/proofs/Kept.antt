@@ -11,7 +11,7 @@ use Rattle.rules.specs.declared.Table.{Table}
 use Rattle.rules.specs.Sizes.{lineMost}
 use Rattle.rules.specs.Trace.{commandOf, tracedOf}
 use Rattle.lists.proofs.Tests.{by-test}
-use Rattle.trace.specs.Sessions.{lineKept}
+use Rattle.trace_session.specs.Counts.{lineKept}
 
 command-kept : (line : List ℕ) → commandOf (take lineKept line) ≡ commandOf line
 unfolding commandOf

@@ -1,4 +1,3 @@
-pub mod Memory
 pub mod Kept
 pub mod Answered
 pub mod Bytes

@@ -6,9 +6,10 @@ use Prim.Native.Nat.{ℕ}
 use native.Mathlib.Omega.{arith}
 use lib.ListN.{length, replicate}
 use Rattle.rules.specs.Trace.{traceCapacity}
-use Rattle.trace.specs.declared.Session.{Session}
+use Rattle.trace_session.specs.declared.Session.{Session}
 use Rattle.trace.specs.Program.{afterBytes, written, start}
-use Rattle.trace.specs.Sessions.{Stands, Fits, TakesAll, Starts, lineKept, room}
+use Rattle.trace_session.specs.Counts.{lineKept, room}
+use Rattle.trace.specs.Sessions.{Stands, Fits, TakesAll, Starts}
 use Rattle.trace.proofs.Bytes.{after-both, written-between}
 
 pub record Reached (s : Session) (heads rows : List (List ℕ)) (log line output : List ℕ) : Type 0 where

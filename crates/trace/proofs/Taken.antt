@@ -1,15 +1,19 @@
 -- A part of the block, up to its first newline, is taken.
 use Prim.Native.Nat.{ℕ, zero, suc, _+_, _-_, _≤_, _<_}
 use native.Mathlib.Omega.{arith}
-use mathlib.Core.Path.{_≡_, refl, ap, _∙_}
+use mathlib.Core.Path.{_≡_, refl, sym, ap, _∙_}
+use mathlib.Core.Bool.{true, false}
+use borrow.Author.Tests.{ltb-true, ltb-false}
 use mathlib.Core.List.{List, [], _∷_, _++_}
 use lib.ListN.{length, take, drop, length-drop}
 use lib.Seq.{take-length}
-use Rattle.trace.specs.declared.Session.{Session}
+use Rattle.trace_session.specs.declared.Session.{Session}
+use Rattle.trace_session.specs.declared.Part.{Part}
 use Rattle.bytes.specs.Bytes.{indexOf, slice}
 use Rattle.trace_line.specs.Promises.{newline}
 use Rattle.trace.specs.Program.{Stand, answered, withMore, afterBytes}
-use Rattle.trace.specs.Sessions.{Stands, Ready, Keeps, Answers, Takes, part, lineKept}
+use Rattle.trace_session.specs.Counts.{Keeps, Parts, lineKept}
+use Rattle.trace.specs.Sessions.{Stands, Ready, Answers, Takes, part}
 use Rattle.trace.proofs.Bytes.{after-plain, after-line}
 
 take-more : (n : ℕ) (a b : List ℕ) → take n (take n a ++ b) ≡ take n (a ++ b)
@@ -45,28 +49,30 @@ module _ (block : List ℕ) (from end : ℕ) (found : end ≡ from + indexOf new
 abbrev lengthened : Session → ℕ → ℕ → Session
 lengthened s kept taken = record { capacity = s .capacity; used = s .used; sound = s .sound; kept = kept; taken = taken; waiting = s .waiting; writable = s .writable }
 
-module _ {s : Session} {heads rows : List (List ℕ)} {block log line output line′ : List ℕ} {end kept : ℕ}
-    (ready : Ready s heads rows line output) (within : s .taken ≤ length block)
-    (found : end ≡ s .taken + indexOf newline (slice (s .taken) (length block) block))
-    (keeps : Keeps (s .kept) line (part (s .taken) end block) kept line′)
+module _ {s : Session} {heads rows : List (List ℕ)} {block log line output line′ : List ℕ} {p : Part} {kept : ℕ}
+    (ready : Ready s heads rows line output) (within : s .taken ≤ length block) (parts : Parts block (s .taken) p)
+    (keeps : Keeps (s .kept) line (part (s .taken) (p .end) block) kept line′)
   where
-    pub line-taken : {r : Session} {heads′ rows′ : List (List ℕ)} {log′ output′ : List ℕ} → end < length block
-        → Answers (lengthened s kept (end + 1)) heads rows log line′ output r heads′ rows′ log′ output′ → Takes s heads rows block log line output r heads′ rows′ log′ line′ output′
-    line-taken {r} h a =
-        let t : r .taken ≡ end + 1 = a .taken in
+    pub line-taken : {r : Session} {heads′ rows′ : List (List ℕ)} {log′ output′ : List ℕ} → p .whole ≡ true
+        → Answers (lengthened s kept (p .taken)) heads rows log line′ output r heads′ rows′ log′ output′ → Takes s heads rows block log line output r heads′ rows′ log′ line′ output′
+    line-taken {r} e a =
+        let h : p .end < length block = ltb-true (p .end) (length block) (sym (parts .whole) ∙ e) in
+        let t : r .taken ≡ p .end + 1 = a .taken ∙ rw e at (parts .taken) in
         record {
           fits = a .fits;
-          onward = omega (arith, found);
+          onward = omega (arith, parts .found);
           within = omega arith;
-          some = λ q. omega (arith, found);
+          some = λ q. omega (arith, parts .found);
           same = λ w q.
-              let e : afterBytes w (part (s .taken) (r .taken) block) ≡ answered (withMore w (part (s .taken) end block)) =
-              rw t (after-whole block (s .taken) end found within w h (omega (arith, found))) in
-              rw e (a .same (withMore w (part (s .taken) end block)) (more-stands keeps refl refl refl q));
+              let e : afterBytes w (part (s .taken) (r .taken) block) ≡ answered (withMore w (part (s .taken) (p .end) block)) =
+              rw t (after-whole block (s .taken) (p .end) (parts .found) within w h (omega (arith, parts .found))) in
+              rw e (a .same (withMore w (part (s .taken) (p .end) block)) (more-stands keeps refl refl refl q));
         }
 
-    pub rest-taken : length block ≤ end → end ≤ length block → Takes s heads rows block log line output (lengthened s kept end) heads rows log line′ output
-    rest-taken h k =
+    pub rest-taken : p .whole ≡ false → Takes s heads rows block log line output (lengthened s kept (p .taken)) heads rows log line′ output
+    rest-taken e =
+        let h : length block ≤ p .end = ltb-false (p .end) (length block) (sym (parts .whole) ∙ e) in
+        let t : p .taken ≡ p .end = rw e at (parts .taken) in
         record {
           fits = record {
             sound = ready .fits .sound;
@@ -77,8 +83,8 @@ module _ {s : Session} {heads rows : List (List ℕ)} {block log line output lin
             line-long = keeps .long;
             output-long = ready .fits .output-long;
           };
-          onward = omega (arith, found);
-          within = k;
-          some = λ q. omega arith;
-          same = λ w q. rw (after-rest block (s .taken) end found within w) (more-stands keeps refl refl refl q);
+          onward = omega (arith, t, parts .found);
+          within = omega (arith, t, parts .within);
+          some = λ q. omega (arith, t);
+          same = λ w q. rw (t, after-rest block (s .taken) (p .end) (parts .found) within w) (more-stands keeps refl refl refl q);
         }

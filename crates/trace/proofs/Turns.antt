@@ -1,17 +1,28 @@
 -- Lines after lines, and blocks of them: what was taken, and what is taken next, is taken at once.
-use Prim.Native.Nat.{ℕ, _-_, _≤_, _<_}
+use Prim.Native.Nat.{ℕ, _+_, _-_, _≤_, _<_}
 use native.Mathlib.Omega.{arith}
 use mathlib.Core.Path.{_≡_, refl, sym, _∙_}
-use mathlib.Core.Bool.{false}
+use mathlib.Core.Bool.{Bool, true, false}
 use mathlib.Core.Logic.{_⊎_, inl, inr}
 use mathlib.Core.List.{List}
 use lib.ListN.{length}
 use lib.Seq.{take-all}
+use lib.Dec.{leb}
+use borrow.Author.Tests.{leb-true, leb-false}
 use Rattle.lists.proofs.Tests.{by-either, no-clash}
-use Rattle.trace.specs.declared.Session.{Session}
+use Rattle.trace_session.specs.declared.Session.{Session}
 use Rattle.trace.specs.Program.{Stand, afterBytes, written}
-use Rattle.trace.specs.Sessions.{Stands, Fits, Takes, Writes, TakesAll, part}
+use Rattle.trace_session.specs.Counts.{Writes, room}
+use Rattle.trace_parts.specs.Puts.{outputMost}
+use Rattle.trace.specs.Sessions.{Stands, Fits, Takes, TakesAll, part}
 use Rattle.trace.proofs.Bytes.{after-parts, written-between}
+
+-- what `has_room` tells
+pub enough-room : (s : Session) {b : Bool} → b ≡ leb (s .waiting + outputMost) room → b ≡ true → s .waiting + outputMost ≤ room
+enough-room s e t = leb-true (s .waiting + outputMost) room (sym e ∙ t)
+
+pub no-room : (s : Session) {b : Bool} → b ≡ leb (s .waiting + outputMost) room → b ≡ false → room < s .waiting + outputMost
+no-room s e t = leb-false (s .waiting + outputMost) room (sym e ∙ t)
 
 -- the loop over lines: it has moved on, or nothing waits that did not
 pub record Taking (heads₀ rows₀ : List (List ℕ)) (block log₀ line₀ output₀ : List ℕ) (s₀ : Session) (heads rows : List (List ℕ)) (log line output : List ℕ) (s : Session) : Type 0 where

@@ -2,23 +2,17 @@
 use Prim.Native.Nat.{ℕ, _+_, _-_, _≤_, _<_}
 use mathlib.Core.Path.{_≡_}
 use mathlib.Core.Bool.{true}
-use mathlib.Core.List.{List, _++_}
+use mathlib.Core.List.{List}
 use lib.ListN.{length, take, drop}
 use Rattle.rules.specs.Sound.{soundOf}
 use Rattle.rules.specs.Restart.{restartOf}
 use Rattle.trace_parts.specs.Puts.{outputMost}
 use Rattle.rows.specs.Memory.{tableIn}
-use Rattle.trace.specs.declared.Session.{Session}
+use Rattle.trace_session.specs.declared.Session.{Session}
+use Rattle.trace_session.specs.Counts.{lineKept, room}
 use Rattle.trace.specs.Program.{Stand, answered, afterBytes, afterAll, written}
 
 -- ── how memory holds it ─────────────────────────────────────────────────────────────────────────────────────────
-
--- one byte more than a line may have
-abbrev pub lineKept : ℕ
-lineKept = 65
-
-abbrev pub room : ℕ
-room = 16384
 
 -- the line is kept as far as a line that can be read goes, and one byte more; what was printed waits at the start of the output's memory
 pub record Stands (w : Stand) (s : Session) (heads rows : List (List ℕ)) (log line output : List ℕ) : Type 0 where
@@ -44,12 +38,6 @@ pub record Ready (s : Session) (heads rows : List (List ℕ)) (line output : Lis
 
 -- ── what the functions promise ──────────────────────────────────────────────────────────────────────────────────
 
--- more bytes of the line, as far as they are kept
-pub record Keeps (kept : ℕ) (before more : List ℕ) (r : ℕ) (after : List ℕ) : Type 0 where
-  pub within : r ≤ lineKept
-  pub long : length after ≡ lineKept
-  pub same : take r after ≡ take lineKept (take kept before ++ more)
-
 -- the line is answered
 pub record Answers (s : Session) (heads rows : List (List ℕ)) (log line output : List ℕ) (r : Session) (heads′ rows′ : List (List ℕ)) (log′ output′ : List ℕ) : Type 0 where
   pub fits : Fits r heads′ rows′ line output′
@@ -67,15 +55,6 @@ pub record Takes (s : Session) (heads rows : List (List ℕ)) (block log line ou
   pub within : r .taken ≤ length block
   pub some : s .taken < length block → s .taken < r .taken
   pub same : (w : Stand) → Stands w s heads rows log line output → Stands (afterBytes w (part (s .taken) (r .taken) block)) r heads′ rows′ log′ line′ output′
-
--- what waits is written
-pub record Writes (s r : Session) : Type 0 where
-  pub capacity : r .capacity ≡ s .capacity
-  pub used : r .used ≡ s .used
-  pub sound : r .sound ≡ s .sound
-  pub kept : r .kept ≡ s .kept
-  pub taken : r .taken ≡ s .taken
-  pub none : r .waiting ≡ 0
 
 -- the whole block is taken and all that it has printed is written, unless the output fails
 pub record TakesAll (s : Session) (heads rows : List (List ℕ)) (block log line output : List ℕ) (r : Session) (heads′ rows′ : List (List ℕ)) (log′ line′ output′ : List ℕ) : Type 0 where

@@ -1,50 +1,16 @@
 // The trace program: obeys the lines of standard input on an empty 4,096-byte log, and writes one line for each.
 
 ghost use mathlib.Core.Path.{_≡_};
-ghost use Prim.Native.Nat.{_+_, _≤_, _<_, min};
+ghost use Prim.Native.Nat.{_≤_};
 ghost use lib.ListN.{length};
-ghost use Rattle.trace.specs.Sessions.{Fits, Ready, Keeps, Answers, Takes, Writes, TakesAll, Finishes, Starts, lineKept};
+ghost use Rattle.trace.specs.Sessions.{Fits, Ready, Answers, Takes, TakesAll, Finishes, Starts};
 use libc::STDIN_FILENO;
-use libc::STDOUT_FILENO;
-use rules::sizes;
 use trace_line::OUTPUT;
-
-// A line is kept with one byte more than it may have, so that one that is too long is seen as such, however long it is.
-const KEPT: usize = sizes::LINE + 1;
-
-// Output is written in blocks of about this size.
-const ROOM: usize = 16384;
-
-const NEWLINE: u8 = b'\n';
+use trace_session::KEPT;
+use trace_session::ROOM;
+use trace_session::Session;
 
 const CAPACITY: usize = 4096;
-
-// Of the table, whose transactions and enlistments are in memory of their own, the capacity, the used length, and whether it is sound; how many bytes of the present
-// line are kept, of the present block are taken, and of output wait; and whether the output still takes any.
-struct Session {
-    capacity: u32,
-    used: u32,
-    sound: bool,
-    kept: usize,
-    taken: usize,
-    waiting: usize,
-    writable: bool,
-}
-
-fn least(a: usize, b: usize) -> usize
-    ensures { λ r. ⌜ r ≡ min a b ⌝ }
-{
-    if a < b { a } else { b }
-}
-
-// More bytes of the present line; gives how many of it are kept then.
-fn keep(line: &mut [u8], kept: usize, more: &[u8]) -> usize
-    requires { ⌜ (kept ≤ lineKept) × (length (now line) ≡ lineKept) ⌝ }
-    ensures { λ r. ⌜ Keeps kept (now (line .entry)) (now (more .entry)) r (now (line .exit)) ⌝ }
-{
-    let n = least(more.len(), KEPT - kept);
-    trace_parts::put_text(line, kept, &more[..n])
-}
 
 // The present line is whole.
 fn answer(
@@ -97,14 +63,14 @@ fn take_line(
     ensures { λ r. ⌜ Takes s (now (heads .entry)) (now (rows .entry)) (now (block .entry)) (now (log .entry)) (now (line .entry)) (now (output .entry)) r (now (heads .exit)) (now (rows .exit)) (now (log .exit)) (now (line .exit)) (now (output .exit)) ⌝ }
 {
     let from = s.taken;
-    let end = bytes::scan::find(block, from, block.len(), NEWLINE);
+    let part = trace_session::part_of(block, from);
+    let end = part.end;
     let mut more = s;
-    more.kept = keep(line, s.kept, &block[from..end]);
-    if end < block.len() {
-        more.taken = end + 1;
+    more.kept = trace_session::keep(line, s.kept, &block[from..end]);
+    more.taken = part.taken;
+    if part.whole {
         return answer(more, heads, rows, log, line, output);
     }
-    more.taken = end;
     more
 }
 
@@ -123,25 +89,14 @@ fn take_lines(
 {
     let mut s = start;
     while s.taken < block.len() {
-        if ROOM < s.waiting + OUTPUT {
+        let room = trace_session::has_room(s);
+        if room {} else {
             return s;
         }
         let next = take_line(s, heads, rows, block, log, line, output);
         s = next;
     }
     s
-}
-
-// What waits is written.
-fn flush(s: Session, output: &[u8]) -> Session
-    requires { ⌜ s .waiting ≤ length (now output) ⌝ }
-    ensures { λ r. ⌜ Writes s r ⌝ }
-{
-    let n = s.waiting;
-    let mut after = s;
-    after.writable = io::write_all(STDOUT_FILENO, &output[..n]);
-    after.waiting = 0;
-    after
 }
 
 fn take_block(
@@ -160,7 +115,7 @@ fn take_block(
     s.taken = 0;
     while s.taken < block.len() {
         let next = take_lines(s, heads, rows, block, log, line, output);
-        let after = flush(next, output);
+        let after = trace_session::flush(next, output);
         s = after;
         if s.writable {} else {
             return s;
@@ -223,7 +178,7 @@ fn main() {
         let n = io::count(got, &block);
         if n == 0 {
             let last = finish(s, &mut heads, &mut rows, &mut log, &line, &mut output);
-            flush(last, &output);
+            trace_session::flush(last, &output);
             return;
         }
         let next = take_block(

@@ -1,4 +1,4 @@
--- Each turn prints the next byte.
+-- Each turn prints a byte that is there, and leaves one less.
 use Prim.Native.Nat.{_≤_, _-_}
 use borrow.Author.Needs.{needs}
 use lib.ListN.{length}
@@ -14,6 +14,7 @@ print-bytes-spec =
     (λ c. search needs)
     (λ c. search needs)
     (λ c κs. search needs)
+    (λ c. search needs)
     (λ c κs. search needs)
     (λ c. search needs)
     (λ c. search needs)

@@ -13,11 +13,14 @@ take-line-spec =
     (λ c. search needs)
     (λ c. search needs)
     (λ c κs. search needs)
-    (λ c. search needs)
     (λ c κs. search needs)
     (λ c. search needs)
     (λ c. search needs)
     (λ c. search needs)
-    (λ c. let s = c .before .before .before .before .before .before .before .before .before .before .before .before .before .before .before .before .before .before .before .before .before in line-taken (s .pre .0) (s .pre .1) (c .before .before .before .before .before .before .before .before .before .before .before .before .before .before .before .before .find .ensures .0) (c .before .before .before .before .before .before .before .before .before .before .before .before .before .keep .ensures) (c .before .before .before .before .before .before .before .before .before .before .if1 .taken) (c .before .before .before .before .answer .ensures))
+    (λ c.
+    let s = c .before .before .before .before .before .before .before .before .before .before .before .before .before .before .before .before .before .before .before .before .before in
+    line-taken (s .pre .0) (s .pre .1) (c .before .before .before .before .before .before .before .before .before .before .before .before .before .before .before .before .part-of .ensures) (c .before .before .before .before .before .before .before .before .before .before .before .before .before .keep .ensures) (c .before .before .before .before .before .before .before .before .before .before .if1 .taken) (c .before .before .before .before .answer .ensures))
     (λ c. search needs)
-    (λ c. let s = c .before .before .before .before .before .before .before .before .before .before .before in rest-taken (s .pre .0) (s .pre .1) (c .before .before .before .before .before .before .find .ensures .0) (c .before .before .before .keep .ensures) (c .if1 .left) (c .before .before .before .before .before .before .find .ensures .1)))
+    (λ c.
+    let s = c .before .before .before .before .before .before .before .before .before .before .before in
+    rest-taken (s .pre .0) (s .pre .1) (c .before .before .before .before .before .before .part-of .ensures) (c .before .before .before .keep .ensures) (c .if1 .left)))

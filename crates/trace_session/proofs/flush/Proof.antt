@@ -2,8 +2,8 @@
 use native.Mathlib.Omega.{arith}
 use lib.ListN.{length-take}
 use borrow.Author.Needs.{needs}
-use Rattle.trace.proofs.flush.Statement.{statement}
-use Rattle.trace.proofs.flush.Tie as tie
+use Rattle.trace_session.proofs.flush.Statement.{statement}
+use Rattle.trace_session.proofs.flush.Tie as tie
 
 pub flush-spec : {M : Type 1} → statement M
 flush-spec =

@@ -2,9 +2,9 @@
 use native.Mathlib.Omega.{arith}
 use lib.ListN.{length-take}
 use borrow.Author.Needs.{needs}
-use Rattle.trace.proofs.Memory.{kept-more}
-use Rattle.trace.proofs.keep.Statement.{statement}
-use Rattle.trace.proofs.keep.Tie as tie
+use Rattle.trace_session.proofs.Memory.{kept-more}
+use Rattle.trace_session.proofs.keep.Statement.{statement}
+use Rattle.trace_session.proofs.keep.Tie as tie
 
 pub keep-spec : {M : Type 1} → statement M
 keep-spec =

@@ -6,7 +6,7 @@ use mathlib.Core.List.{List, [], _∷_, _++_}
 use lib.ListN.{length, take, drop, length-append, length-take}
 use lib.Seq.{sets-eq, length-sets, take-at, take-nil, take-append-add}
 use Rattle.trace_parts.specs.Puts.{Puts}
-use Rattle.trace.specs.Sessions.{Keeps, lineKept}
+use Rattle.trace_session.specs.Counts.{Keeps, lineKept}
 
 pub put-long : {bytes before after : List ℕ} {at end : ℕ} → Puts bytes before at end after → length after ≡ length before
 put-long {bytes} {before} {after} {at} p = rw (p .same) (length-sets before at bytes)
