@@ -16,7 +16,7 @@ pub fn reaction(kind: u8, state: u8, act: Act) -> Reaction
         Act::Vote(_, vote) => each_reaction::to_vote_in(state, vote),
         Act::Reply(_, reply) => each_reaction::to_reply_in(state, reply),
         Act::Ack(_) => each_reaction::to_ack(state),
-        Act::Lost(_) => each_reaction::to_lost(kind, state),
+        Act::Lost(_) => lost_reaction::to_lost(kind, state),
         Act::Begin => Reaction::Refused,
         Act::Enlist(_, _, _) => Reaction::Refused,
         Act::Commit => Reaction::Refused,

@@ -8,8 +8,8 @@ use borrow.Author.Needs.{needs}
 use borrow.Author.Tests.{ne-eqb}
 use Rattle.rules.specs.EnlistmentState as enlistment
 use Rattle.rules.specs.Events.{toLost}
-use Rattle.each_reaction.proofs.to_lost.Statement.{statement}
-use Rattle.each_reaction.proofs.to_lost.Tie as tie
+use Rattle.lost_reaction.proofs.to_lost.Statement.{statement}
+use Rattle.lost_reaction.proofs.to_lost.Tie as tie
 
 early : (s : ℕ) → 0 < s → s ≤ enlistment.preparing → (eqb s enlistment.active || eqb s enlistment.zero || eqb s enlistment.preparing) ≡ true
 early zero h l = absurd (omega arith)
