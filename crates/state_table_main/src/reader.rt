@@ -6,6 +6,14 @@ use rules::Transaction;
 use rules::TxId;
 use rules::kinds;
 use rules::marks;
+use rules::sizes;
+use rules::sizes::IDENTIFIER;
+
+// The byte of an identifier that a row names.
+const LAST: usize = IDENTIFIER - 1;
+
+// Of a table.
+const PLACES: u8 = (sizes::TRANSACTIONS + sizes::ENLISTMENTS) as u8;
 
 pub struct Row {
     pub table: Table,
@@ -71,9 +79,9 @@ fn numeral(line: &[u8], at: usize) -> Number {
     Number { value, next: i }
 }
 
-fn identifier(n: u32) -> [u8; 16] {
-    let mut id = [0u8; 16];
-    id[15] = (n % 256) as u8;
+fn identifier(n: u32) -> [u8; IDENTIFIER] {
+    let mut id = [0u8; IDENTIFIER];
+    id[LAST] = (n % 256) as u8;
     id
 }
 
@@ -166,7 +174,7 @@ fn place(line: &[u8], r: Reading) -> Reading {
 fn read_places(line: &[u8], start: Reading) -> Reading {
     let mut r = start;
     let mut k: u8 = 0;
-    while k < 160 {
+    while k < PLACES {
         let b = byte_at(line, r.next);
         if b == b'|' {
             return r;

@@ -1,5 +1,4 @@
 // What came of a step, put into a line piece by piece. Each function gives the place behind what it put; what the line has no room for is dropped.
-ghost use Prim.Native.Nat.{_≤_};
 use libc::STDOUT_FILENO;
 use rules::Enlistment;
 use rules::Signals;
@@ -7,7 +6,12 @@ use rules::Table;
 use rules::Transaction;
 use rules::kinds;
 use rules::marks;
+use rules::sizes;
+use rules::sizes::IDENTIFIER;
 use trace_line::OUTPUT;
+
+// The byte of an identifier that a row names.
+const LAST: usize = IDENTIFIER - 1;
 
 pub fn put(out: &mut [u8], at: usize, b: u8) -> usize {
     if at < out.len() {
@@ -47,24 +51,18 @@ pub fn outcome(out: &mut [u8], refusal: u8, used: u32, signals: Signals) -> usiz
 }
 
 // The bytes before the last, which are to be zero.
-fn leading(id: [u8; 16]) -> u32 {
+fn leading(id: [u8; IDENTIFIER]) -> u32 {
     let mut sum: u32 = 0;
     let mut i: usize = 0;
-    while i < 15 {
-        sum += wide(id[i]);
+    while i < LAST {
+        sum += basics::wide(id[i]);
         i += 1;
     }
     sum
 }
 
-fn wide(b: u8) -> u32
-    ensures { λ r. ⌜ r ≤ 255 ⌝ }
-{
-    b as u32
-}
-
-fn identifier(out: &mut [u8], at: usize, before: u8, id: [u8; 16]) -> usize {
-    let end = number(out, at, before, wide(id[15]));
+fn identifier(out: &mut [u8], at: usize, before: u8, id: [u8; IDENTIFIER]) -> usize {
+    let end = number(out, at, before, basics::wide(id[LAST]));
     let others = leading(id);
     if others == 0 {
         return end;
@@ -76,7 +74,7 @@ fn transaction(out: &mut [u8], at: usize, x: Transaction) -> usize {
     let t = x.id;
     let id = t.0;
     let end = identifier(out, at, b' ', id);
-    number(out, end, b'=', wide(x.state))
+    number(out, end, b'=', basics::wide(x.state))
 }
 
 fn kind_letter(kind: u8) -> u8 {
@@ -106,10 +104,10 @@ fn enlistment(out: &mut [u8], at: usize, e: Enlistment) -> usize {
     let rm = m.0;
     let kind = put(out, at, b' ');
     let mark = put(out, kind, kind_letter(e.kind));
-    let state = number(out, mark, mark_letter(e.mark), wide(e.state));
+    let state = number(out, mark, mark_letter(e.mark), basics::wide(e.state));
     let named = number(out, state, b':', e.number);
     let manager = identifier(out, named, b':', rm);
-    number(out, manager, b':', wide(e.holder))
+    number(out, manager, b':', basics::wide(e.holder))
 }
 
 // All zeros.
@@ -148,7 +146,7 @@ fn transactions(out: &mut [u8], at: usize, table: Table) -> usize {
     let mut held = at;
     let mut end = at;
     let mut i: usize = 0;
-    while i < 32 {
+    while i < sizes::TRANSACTIONS {
         let x = table.transactions[i];
         end = transaction(out, end, x);
         let free = is_free(x);
@@ -172,7 +170,7 @@ fn enlistments(out: &mut [u8], at: usize, table: Table) -> usize {
     let mut held = at;
     let mut end = at;
     let mut i: usize = 0;
-    while i < 128 {
+    while i < sizes::ENLISTMENTS {
         let e = table.enlistments[i];
         let empty = is_empty(e);
         end = enlistment_or_none(out, end, e, empty);

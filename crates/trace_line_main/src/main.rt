@@ -11,6 +11,12 @@ use rules::Reply;
 use rules::Signal;
 use rules::Signals;
 use rules::Vote;
+use rules::sizes;
+use rules::sizes::IDENTIFIER;
+use trace_line::OUTPUT;
+
+// The byte of an identifier that a line names.
+const LAST: usize = IDENTIFIER - 1;
 
 fn word(w: &[u8]) {
     io::write_all(1, w);
@@ -80,27 +86,21 @@ fn act_of(a: Act) {
     }
 }
 
-fn wide(b: u8) -> u64
-    ensures { λ r. ⌜ r ≤ 255 ⌝ }
-{
-    b as u64
-}
-
 // The sum of the bytes before the last, which are to be zero.
-fn leading(bytes: [u8; 16]) -> u64 {
-    let mut sum: u64 = 0;
+fn leading(bytes: [u8; IDENTIFIER]) -> u32 {
+    let mut sum: u32 = 0;
     let mut i: usize = 0;
-    while i < 15 {
-        sum += wide(bytes[i]);
+    while i < LAST {
+        sum += basics::wide(bytes[i]);
         i += 1;
     }
     sum
 }
 
-fn identifier(bytes: [u8; 16]) {
-    io::print_decimal(1, leading(bytes));
+fn identifier(bytes: [u8; IDENTIFIER]) {
+    io::print_decimal(1, leading(bytes) as u64);
     io::write_all(1, b"/");
-    io::print_decimal(1, wide(bytes[15]));
+    io::print_decimal(1, basics::wide(bytes[LAST]) as u64);
     io::write_all(1, b" ");
 }
 
@@ -127,7 +127,7 @@ fn show(line: &[u8]) {
 }
 
 fn out(refusal: u8, used: u32, signals: Signals) {
-    let mut buffer = [0u8; 494];
+    let mut buffer = [0u8; OUTPUT];
     let n = trace_line::write_line(refusal, used, signals, &mut buffer);
     io::write_all(1, &buffer[..n]);
 }
@@ -157,7 +157,7 @@ fn show_lines(input: &[u8]) {
 }
 
 fn put(refusal: u8, used: u32, count: u8, first: Signal, second: Signal) {
-    let mut items = [first; 17];
+    let mut items = [first; sizes::SIGNALS];
     items[1] = second;
     out(refusal, used, Signals { items, count });
 }
@@ -172,8 +172,8 @@ fn main() {
     show_lines(&space[..n]);
     let none = signal(Name::Nothing, 0);
     put(0, 8, 0, none, none);
-    let most = signal(Name::AnswerCommitted, 4294967295);
-    put(255, 4294967295, 200, most, most);
+    let most = signal(Name::AnswerCommitted, sizes::LARGEST_NUMBER);
+    put(u8::MAX, sizes::LARGEST_NUMBER, 200, most, most);
     put(
         16,
         65536,

@@ -1,13 +1,15 @@
 // Runs the worked stories that its arguments name, each on a fresh table and an empty log. Besides the lines of the trace program a story
 // may say `log N`, which starts on an empty log of N bytes, and `torn K`, which restarts with the last K used bytes not stored.
 ghost use mathlib.Core.Path.{_≡_};
-ghost use Prim.Native.Nat.{_≤_};
+ghost use Prim.Native.Nat.{_+_, _≤_};
 ghost use lib.ListN.{length};
+ghost use Rattle.rules.specs.Trace.{traceCapacity};
 use libc::STDOUT_FILENO;
 use rules::Name;
 use rules::Signal;
 use rules::Signals;
 use rules::Table;
+use rules::sizes;
 use trace_line::OUTPUT;
 
 const MEMORY: usize = 4096;
@@ -43,15 +45,15 @@ fn wide(b: u8) -> usize {
 
 // A number with one digit more, whose byte is 0x30 to 0x39; none is larger than the memory.
 fn extended(n: usize, digit: u8) -> usize
-    requires { ⌜ n ≤ 4096 ⌝ }
-    ensures { λ r. ⌜ r ≤ 4096 ⌝ }
+    requires { ⌜ n ≤ traceCapacity ⌝ }
+    ensures { λ r. ⌜ r ≤ traceCapacity ⌝ }
 {
     let more = n * 10 + wide(digit) % 16;
     if more <= MEMORY { more } else { MEMORY }
 }
 
 fn number(digits: &[u8]) -> usize
-    ensures { λ r. ⌜ r ≤ 4096 ⌝ }
+    ensures { λ r. ⌜ r ≤ traceCapacity ⌝ }
 {
     let mut n: usize = 0;
     let mut i: usize = 0;
@@ -65,7 +67,7 @@ fn number(digits: &[u8]) -> usize
 
 // The number behind a word that a line begins with.
 fn number_behind(line: &[u8], word: &[u8]) -> usize
-    ensures { λ r. ⌜ r ≤ 4097 ⌝ }
+    ensures { λ r. ⌜ r ≤ traceCapacity + 1 ⌝ }
 {
     let at = word.len();
     if line.len() < at {
@@ -81,7 +83,7 @@ fn print_restart(refusal: u8, used: u32) {
         number: 0,
     };
     let none = Signals {
-        items: [nothing; 17],
+        items: [nothing; sizes::SIGNALS],
         count: 0,
     };
     let mut buffer = [0u8; OUTPUT];
@@ -125,8 +127,8 @@ fn obeyed(s: Story, line: &[u8], memory: &mut [u8]) -> Story
 }
 
 fn told(s: Story, line: &[u8], memory: &mut [u8]) -> Story
-    requires { ⌜ (s .capacity ≤ length (now memory)) × (length (now memory) ≡ 4096) ⌝ }
-    ensures { λ r. ⌜ r .capacity ≤ 4096 ⌝ }
+    requires { ⌜ (s .capacity ≤ length (now memory)) × (length (now memory) ≡ traceCapacity) ⌝ }
+    ensures { λ r. ⌜ r .capacity ≤ traceCapacity ⌝ }
 {
     let capacity = number_behind(line, b"log ");
     if capacity < NOTHING {

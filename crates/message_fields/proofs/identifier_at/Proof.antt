@@ -1,4 +1,4 @@
--- A loop that stores the 16 bytes into zeros, one a turn.
+-- What is left of the part, stored behind what was stored, gives all of it; and over zeros as many as it has, nothing else is left.
 use Prim.Native.Nat.{ℕ, _+_, _-_, _≤_, _<_}
 use mathlib.Core.Path.{_≡_, sym, _∙_, ap₂}
 use mathlib.Core.List.{List, append-nil}

@@ -1,4 +1,4 @@
--- Four stores, one after the other, are what `sets` says of the four bytes.
+-- Each store is one behind the last, so that the four are one store of the four bytes.
 use Prim.Native.Nat.{suc, _+_}
 use mathlib.Core.Path.{_≡_}
 use native.Mathlib.Omega.{arith}

@@ -1,4 +1,4 @@
--- A loop that stores the 16 bytes, one a turn.
+-- What is left of the identifier, stored behind what was stored, gives the whole of it at its place.
 use Prim.Native.Nat.{_-_}
 use mathlib.Core.Path.{refl}
 use borrow.Author.Needs.{needs}

@@ -1,4 +1,4 @@
--- Four times both is `every` of five.
+-- `every` is `&&` upon `&&`, and its last one, with true, changes nothing.
 use mathlib.Core.Path.{_≡_, refl}
 use mathlib.Core.Bool.{Bool, true, false, _&&_}
 use borrow.Author.Needs.{needs}

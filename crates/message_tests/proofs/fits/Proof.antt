@@ -1,4 +1,4 @@
--- Both tests, by the answer of the one and the computed other.
+-- `both` joins the answer of `is_writable` and the test of the length as the definition does.
 use borrow.Author.Needs.{needs}
 use Rattle.message_tests.proofs.fits.Statement.{statement}
 use Rattle.message_tests.proofs.fits.Tie as tie

@@ -1,4 +1,4 @@
--- The six tests of the definition, by the answers of the functions that compute them.
+-- Bytes that are too few for a header fail the first test of the definition; in others every field is there, and each further test is one answer.
 use borrow.Author.Needs.{needs}
 use borrow.Author.Tests.{le-leb, lt-leb}
 use Rattle.lists.specs.Lists.{every}

@@ -1,4 +1,4 @@
--- The five tests of the definition, by the answers of the functions that compute them.
+-- Each test of the definition is one answer, and `all` joins them as `every` does.
 use borrow.Author.Needs.{needs}
 use Rattle.rules.specs.Messages.{isWritable}
 use Rattle.message_tests.proofs.is_writable.Statement.{statement}

@@ -1,4 +1,4 @@
--- Zero is to be the same as zeros.
+-- The definition compares with 16 zeros too.
 use borrow.Author.Needs.{needs}
 use Rattle.message_tests.proofs.is_zero.Statement.{statement}
 use Rattle.message_tests.proofs.is_zero.Tie as tie

@@ -1,4 +1,4 @@
--- A search in the table of types, by its rule.
+-- The table has the definition's types in their order, so that what is left of it decides as the whole does, and the first row that fits is the definition's.
 use Prim.Native.Nat.{_-_}
 use borrow.Author.Needs.{needs}
 use Rattle.message_types.proofs.Types.{table, Sought, sought-start, sought-next, sought-here, sought-end}

@@ -1,4 +1,4 @@
--- Six stores of four bytes, one behind the other.
+-- Each field starts where the one before it ends, so that the six stores are one store of the header.
 use borrow.Author.Needs.{needs}
 use Rattle.messages.proofs.put_header.Statement.{statement}
 use Rattle.messages.proofs.put_header.Tie as tie

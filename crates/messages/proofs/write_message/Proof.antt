@@ -1,4 +1,4 @@
--- The header and the payload, stored one behind the other from the start, are the message's bytes.
+-- The payload is stored where the header ends, so that the two stores are one of the message's bytes; what is refused is not stored.
 use Prim.Native.Nat.{ℕ, _+_, _≤_}
 use mathlib.Core.Path.{_≡_, refl, sym, _∙_, ap}
 use mathlib.Core.Bool.{Bool, true, false, _&&_}

@@ -1,4 +1,4 @@
--- The part that is shown is as long as it says.
+-- What is kept is within the line, so that this part of it is there.
 use native.Mathlib.Omega.{arith}
 use mathlib.Core.Path.{sym}
 use borrow.Author.Needs.{needs}

@@ -1,4 +1,4 @@
--- The part of the log that is lent is as long as it says.
+-- The lent length was tested against the log, so that this part of it is there.
 use native.Mathlib.Omega.{arith}
 use mathlib.Core.Path.{sym}
 use borrow.Author.Needs.{needs}

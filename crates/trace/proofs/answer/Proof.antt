@@ -1,4 +1,4 @@
--- What `obey_in` leaves in the buffer is stored behind what waits.
+-- The output line stands at the start of the buffer, so that as much of it, stored behind what waits, is the line printed.
 use native.Mathlib.Omega.{arith}
 use mathlib.Core.Path.{refl}
 use lib.ListN.{length-take}

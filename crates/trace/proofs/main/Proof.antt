@@ -1,4 +1,4 @@
--- The program is safe and ends. Between two blocks it stands where the bytes that it has read lead from its start, and nothing waits.
+-- Between two blocks the program stands where the bytes that it has read lead from its start, and nothing waits: each turn keeps that, and counts down.
 use borrow.Author.Needs.{needs}
 use Rattle.trace.proofs.Reached.{Reached, reached-start, reached-again}
 use Rattle.trace.proofs.main.Statement.{statement}

@@ -1,4 +1,4 @@
--- The table of the restart is put into the memory, and tested.
+-- The memory means the restart's table, so that what is tested of the table holds of the memory.
 use mathlib.Core.Path.{refl, sym, ap, _∙_}
 use borrow.Author.Needs.{needs}
 use Rattle.rules.specs.Sound.{soundOf}

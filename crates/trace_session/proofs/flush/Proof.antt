@@ -1,4 +1,4 @@
--- What waits is a part of the output's memory, and only the count of it and the output's answer are set.
+-- Only the count of what waits and the output's answer are set, and what waits is within the output's memory.
 use native.Mathlib.Omega.{arith}
 use lib.ListN.{length-take}
 use borrow.Author.Needs.{needs}

@@ -1,4 +1,4 @@
--- The index stays within both.
+-- The index stays within the word, and the word is no longer than the line.
 use Prim.Native.Nat.{_≤_, _-_}
 use lib.ListN.{length}
 use borrow.Author.Needs.{needs}

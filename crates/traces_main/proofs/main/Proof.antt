@@ -1,4 +1,4 @@
--- Each turn runs one more of the stories.
+-- The index goes up to the count of arguments, one a turn.
 use Prim.Native.Nat.{_-_}
 use borrow.Author.Needs.{needs}
 use Rattle.traces_main.proofs.main.Statement.{statement}

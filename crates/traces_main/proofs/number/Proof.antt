@@ -1,4 +1,4 @@
--- No number grows past the memory.
+-- `extended` stays within the memory at each digit.
 use Prim.Native.Nat.{_≤_, _-_}
 use lib.ListN.{length}
 use borrow.Author.Needs.{needs}

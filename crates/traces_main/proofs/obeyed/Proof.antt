@@ -1,4 +1,4 @@
--- The log is a part of the memory, and the output line one of the buffer.
+-- The log's capacity is within the memory, and the size that `obey` gives within the buffer, so that both parts are there.
 use native.Mathlib.Omega.{arith}
 use mathlib.Core.Path.{ap}
 use lib.ListN.{length, length-take}

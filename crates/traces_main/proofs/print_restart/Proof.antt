@@ -1,4 +1,4 @@
--- What was written is a part of the buffer.
+-- `write_line` gives a size within the buffer, so that so much of it is there to be written.
 use native.Mathlib.Omega.{arith}
 use mathlib.Core.Path.{ap}
 use lib.ListN.{length, length-take}

@@ -1,4 +1,4 @@
--- The log is a part of the memory.
+-- The log's capacity is within the memory, so that this part of it is there.
 use native.Mathlib.Omega.{arith}
 use lib.ListN.{length-take}
 use borrow.Author.Needs.{needs}

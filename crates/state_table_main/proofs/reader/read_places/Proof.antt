@@ -1,4 +1,4 @@
--- At most so many turns as a table has places.
+-- A counter goes up to the number of a table's places.
 use Prim.Native.Nat.{_≤_, _-_}
 use borrow.Author.Needs.{needs}
 use Rattle.state_table_main.proofs.reader.read_places.Statement.{statement}

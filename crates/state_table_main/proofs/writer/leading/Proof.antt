@@ -1,4 +1,4 @@
--- Each byte adds at most 255.
+-- Each byte adds at most 255, so that fifteen cannot wrap.
 use Prim.Native.Nat.{_≤_, _-_, _*_}
 use borrow.Author.Needs.{needs}
 use Rattle.state_table_main.proofs.writer.leading.Statement.{statement}

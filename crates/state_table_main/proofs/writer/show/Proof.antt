@@ -1,4 +1,4 @@
--- The part that is written is as long as it says.
+-- The end was tested against the output, so that this part of it is there.
 use native.Mathlib.Omega.{arith}
 use mathlib.Core.Path.{sym}
 use borrow.Author.Needs.{needs}
