@@ -141,9 +141,9 @@ module _ (tb : Table) (log : List ℕ) (s : Sound tb) (x : TxId) (y : RmId) wher
         (λ _. unlogged tb this-event log t p tb (untouched tb s t p at-p) refl tb₂ ss (addressed-neutral tb this-event ss (only-each notCommitted name.Zero phase-zeros refl) (only-each notAborted name.Zero phase-zeros refl)) (used-goes p transaction.phaseZero zeroedOf tb) (λ u d. goes-other t p tb at-p transaction.phaseZero zeroedOf u zeroed-keeps d)
         (λ h made l a. rw (view-here transaction.active state, view-goes t p tb at-p transaction.phaseZero zeroedOf (λ q. omega arith))
         (gather refl (nothing-calm t .not-prepared) (quiet t tb this-event ss (only-each notCommitted name.Zero phase-zeros refl) (only-each notAborted name.Zero phase-zeros refl))
-        (λ m w. held-own (Unasked m) (Unasked m) p zeroedOf tb (λ e _ q. zeroed-kept (Unasked m) (λ e q. q) e q) w)
+        (λ m r k w. held-own (Unasked m r k) (Unasked m r k) p zeroedOf tb (λ e _ q. zeroed-kept (Unasked m r k) (λ e q. q) e q) w)
         (λ m r k q w. absurd (nothing-calm t .not-enlisted m r k q)))))
-        (λ _. own-start tb this-event log t p tb (untouched tb s t p at-p) refl hs (view-here transaction.active state) (nothing-calm t) (λ m w. w) (λ c. omega (arith, c, state)))
+        (λ _. own-start tb this-event log t p tb (untouched tb s t p at-p) refl hs (view-here transaction.active state) (nothing-calm t) (λ m r k w. w) (λ c. omega (arith, c, state)))
       where
         this-event : Event
         this-event = event act.Commit
@@ -173,9 +173,9 @@ module _ (tb : Table) (log : List ℕ) (s : Sound tb) (x : TxId) (y : RmId) wher
       enlisted : Table
       enlisted = withEnlistments (putLowest isVacant joined (tb .enlistments)) tb
 
-      joined-is : (joined .holder ≡ p) × (joined .number ≡ n) × (joined .kind ≡ kindOf k)
+      joined-is : (joined .holder ≡ p) × (joined .number ≡ n) × (joined .rm .0 ≡ r) × (joined .kind ≡ kindOf k)
       unfolding joined newEnlistment
-      joined-is = (refl, refl, refl)
+      joined-is = (refl, refl, refl, refl)
 
       enlist-is : enlistOf p n r k m tb log ≡ saying (cond (zeroAtOnce k (stateAt p tb)) (signal name.Zero n ∷ []) []) (quietly enlisted log)
       unfolding enlistOf enlisted joined
@@ -213,11 +213,14 @@ module _ (tb : Table) (log : List ℕ) (s : Sound tb) (x : TxId) (y : RmId) wher
       not-prepared : (q : Id) → Prepares t q (Note.enlisted t n r (kindOf k)) → ⊥
       not-prepared q (j, w) = let z : _≡_ {A = ℕ} 0 1 = cc in omega arith
 
-      is-new : (j : ℕ) (q : Id) (i : ℕ) → Note.enlisted t n r (kindOf k) ≡ Note.enlisted t j q i → Votes i → Some (Unasked j) (held p enlisted)
-      is-new j q i w v = record { it = joined; there = enlisted-new; holds = (joined-is .1 ∙ number j q i w, rw (joined-is .2 ∙ kinds j q i w) v) }
+      is-new : (j : ℕ) (q : Id) (i : ℕ) → Note.enlisted t n r (kindOf k) ≡ Note.enlisted t j q i → Votes i → Some (Unasked j q i) (held p enlisted)
+      is-new j q i w v = record { it = joined; there = enlisted-new; holds = ((joined-is .1 ∙ number j q i w, joined-is .2 ∙ manager j q i w, joined-is .3 ∙ kinds j q i w), rw (joined-is .3 ∙ kinds j q i w) v) }
         where
           number : (j : ℕ) (q : Id) (i : ℕ) → Note.enlisted t n r (kindOf k) ≡ Note.enlisted t j q i → n ≡ j
           number j q i w = cc
+
+          manager : (j : ℕ) (q : Id) (i : ℕ) → Note.enlisted t n r (kindOf k) ≡ Note.enlisted t j q i → r ≡ q
+          manager j q i w = cc
 
           kinds : (j : ℕ) (q : Id) (i : ℕ) → Note.enlisted t n r (kindOf k) ≡ Note.enlisted t j q i → kindOf k ≡ i
           kinds j q i w = cc
@@ -229,7 +232,7 @@ module _ (tb : Table) (log : List ℕ) (s : Sound tb) (x : TxId) (y : RmId) wher
       own-enlisted : Own tb this-event log t (saying ss (quietly enlisted log))
       unfolding told
       own-enlisted = unwritten tb this-event log t enlisted ss (addressed-neutral tb this-event ss (only-zero notCommitted refl) (only-zero notAborted refl)) used-enlisted enlisted-other
-          (λ h made l a. rw (is-early state, enlisted-view) (gather refl not-prepared (quiet t tb this-event ss (only-zero notCommitted refl) (only-zero notAborted refl)) (λ j w. enlisted-keeps (Unasked j) w) is-new))
+          (λ h made l a. rw (is-early state, enlisted-view) (gather refl not-prepared (quiet t tb this-event ss (only-zero notCommitted refl) (only-zero notAborted refl)) (λ j q i w. enlisted-keeps (Unasked j q i) w) is-new))
 
       pub own-enlist : Own tb this-event log t (enlistOf p n r k m tb log)
       own-enlist = rw enlist-is own-enlisted

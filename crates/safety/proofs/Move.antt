@@ -51,9 +51,9 @@ module _ (t : Id) where
     pub no-committed : New t Committed ms → ⊥
     pub no-aborted : New t Aborted ms → ⊥
 
-  -- the note is a yes vote with number n
-  abbrev pub VoteOf : ℕ → Note → Type 0
-  VoteOf n x = (r : Id) × (k : ℕ) × (v : Vote) × (x ≡ Note.voted t n r k v) × Yes v
+  -- the note is a yes vote of this enlistment
+  abbrev pub VoteOf : ℕ → Id → ℕ → Note → Type 0
+  VoteOf n r k x = (v : Vote) × (x ≡ Note.voted t n r k v) × Yes v
 
   pub data Doomed : View → Type 0 where
     from-early : {es : List Enlistment} → Doomed (early es)
@@ -71,39 +71,39 @@ module _ (t : Id) where
     begin : {es : List Enlistment} → log′ ≡ log → (Begun t h → ⊥) → x ≡ Note.begun t → Quiet ms → Move h x ms log log′ out (early es)
     -- enlist, commit with P held, zero done
     gather : {es es′ : List Enlistment} → log′ ≡ log → ((r : Id) → Prepares t r x → ⊥) → Quiet ms
-        → ((n : ℕ) → Some (Unasked n) es → Some (Unasked n) es′)
-        → ((n : ℕ) (r : Id) (k : ℕ) → x ≡ Note.enlisted t n r k → Votes k → Some (Unasked n) es′)
+        → ((n : ℕ) (r : Id) (k : ℕ) → Some (Unasked n r k) es → Some (Unasked n r k) es′)
+        → ((n : ℕ) (r : Id) (k : ℕ) → x ≡ Note.enlisted t n r k → Votes k → Some (Unasked n r k) es′)
         → Move h x ms log log′ (early es) (early es′)
     prepare : {es es′ : List Enlistment} → log′ ≡ log → Calm x → Quiet ms
-        → ((n : ℕ) → Some (Unasked n) es → Some (Preparing n) es′)
+        → ((n : ℕ) (r : Id) (k : ℕ) → Some (Unasked n r k) es → Some (Preparing n r k) es′)
         → Move h x ms log log′ (early es) (voting es′)
     ask-one : {es es′ : List Enlistment} {n₀ : ℕ} → log′ ≡ log → Calm x → Quiet ms
-        → ((n : ℕ) → Some (Unasked n) es → n ≡ n₀)
+        → ((n : ℕ) (r : Id) (k : ℕ) → Some (Unasked n r k) es → n ≡ n₀)
         → ((e : Enlistment) → e ∈ es′ → e .number ≡ n₀)
         → record { about = t; name = name.Single; number = n₀ } ∈ ms
         → Move h x ms log log′ (early es) (single es′)
     commit-empty : {es : List Enlistment} → log′ ≡ log → Calm x → (New t Aborted ms → ⊥)
-        → ((n : ℕ) → Some (Unasked n) es → ⊥)
+        → ((n : ℕ) (r : Id) (k : ℕ) → Some (Unasked n r k) es → ⊥)
         → Move h x ms log log′ (early es) out
     -- a vote that is not the last, a lost prepared D
     vote-on : {es es′ : List Enlistment} → log′ ≡ log → Quiet ms
         → NotEnlisted x
-        → ((n : ℕ) → Some (Preparing n) es → VoteOf n x ⊎ Some (Preparing n) es′)
+        → ((n : ℕ) (r : Id) (k : ℕ) → Some (Preparing n r k) es → VoteOf n r k x ⊎ Some (Preparing n r k) es′)
         → ((r : Id) → Some (Hopes r) es → Some (Hopes r) es′)
         → ((r : Id) → Prepares t r x → Some (Hopes r) es′)
         → Move h x ms log log′ (voting es) (voting es′)
     decide-logged : {es es′ : List Enlistment} {rs : List Entry} → log′ ≡ open-with rs → NotEnlisted x → (New t Aborted ms → ⊥)
-        → ((n : ℕ) → Some (Preparing n) es → VoteOf n x)
+        → ((n : ℕ) (r : Id) (k : ℕ) → Some (Preparing n r k) es → VoteOf n r k x)
         → ((r : Id) → Some (Hopes r) es ⊎ Prepares t r x → Some (Waits r) es′ × (r ∈ managersOf rs))
         → Some Durable es′ → Entered rs es′
         → Move h x ms log log′ (voting es) (committing es′)
     decide-unlogged : {es es′ : List Enlistment} → log′ ≡ log → NotEnlisted x → (New t Aborted ms → ⊥)
-        → ((n : ℕ) → Some (Preparing n) es → VoteOf n x)
+        → ((n : ℕ) (r : Id) (k : ℕ) → Some (Preparing n r k) es → VoteOf n r k x)
         → ((r : Id) → Some (Hopes r) es ⊎ Prepares t r x → ⊥)
         → NoDurable es′
         → Move h x ms log log′ (voting es) (committing es′)
     decide-empty : {es : List Enlistment} → log′ ≡ log → NotEnlisted x → (New t Aborted ms → ⊥)
-        → ((n : ℕ) → Some (Preparing n) es → VoteOf n x)
+        → ((n : ℕ) (r : Id) (k : ℕ) → Some (Preparing n r k) es → VoteOf n r k x)
         → ((r : Id) → Some (Hopes r) es ⊎ Prepares t r x → ⊥)
         → Move h x ms log log′ (voting es) out
     -- abort, a single-phase reply other than committed, and all that follows an abort
@@ -143,11 +143,11 @@ module _ (t : Id) where
   no-ask-calm : {x : Note} {h : List Note} → ((q : Id) → Prepares t q x → ⊥) → NoAsk t h → NoAsk t (x ∷ h)
   no-ask-calm c no-ask r m = no-ask r (ask-calm c m)
 
-  voted-more : {n : ℕ} {h : List Note} (x : Note) → VotedYes t n h → VotedYes t n (x ∷ h)
-  voted-more x v = record { manager = v .manager; kind = v .kind; vote = v .vote; accepted = List·Memᴰ·tail (v .accepted); yes = v .yes }
+  voted-more : {n : ℕ} {r : Id} {k : ℕ} {h : List Note} (x : Note) → VotedYes t n r k h → VotedYes t n r k (x ∷ h)
+  voted-more x v = record { vote = v .vote; accepted = List·Memᴰ·tail (v .accepted); yes = v .yes }
 
-  vote-of : {n : ℕ} {x : Note} (h : List Note) → VoteOf n x → VotedYes t n (x ∷ h)
-  vote-of h (r, k, v, e, y) = record { manager = r; kind = k; vote = v; accepted = List·Memᴰ·head (sym e); yes = y }
+  vote-of : {n : ℕ} {r : Id} {k : ℕ} {x : Note} (h : List Note) → VoteOf n r k x → VotedYes t n r k (x ∷ h)
+  vote-of h (v, e, y) = record { vote = v; accepted = List·Memᴰ·head (sym e); yes = y }
 
   -- an enlistment noted before, if x notes none
   old : {n : ℕ} {r : Id} {k : ℕ} {x : Note} {h : List Note} → NotEnlisted x → Note.enlisted t n r k ∈ x ∷ h → Note.enlisted t n r k ∈ h
@@ -328,8 +328,8 @@ module _ (t : Id) where
     asks-none e = rw e tt
 
     -- every enlistment has voted yes, if x is the last vote
-    last-vote : {es : List Enlistment} → ShapeVoting t es log h waiting sent → NotEnlisted x → ((n : ℕ) → Some (Preparing n) es → VoteOf n x) → AllVotedYes t (x ∷ h)
-    last-vote s c f n r k i m = ⊎-elim (voted-more x) (λ p. vote-of h (f n p)) (s .held n r k (old c i) m)
+    last-vote : {es : List Enlistment} → ShapeVoting t es log h waiting sent → NotEnlisted x → ((n : ℕ) (r : Id) (k : ℕ) → Some (Preparing n r k) es → VoteOf n r k x) → AllVotedYes t (x ∷ h)
+    last-vote s c f n r k i m = ⊎-elim (voted-more x) (λ p. vote-of h (f n r k p)) (s .held n r k (old c i) m)
 
     -- who may ask now has prepared with x, or before
     hoping : {es : List Enlistment} → ShapeVoting t es log h waiting sent → (r : Id) → MayAsk t r (x ∷ h) → Some (Hopes r) es ⊎ Prepares t r x
@@ -373,7 +373,7 @@ module _ (t : Id) where
     keep-base b s (ask-one e c q f g m) = make-undecided b (s .undecided) e q
     keep-base b s (commit-empty e c no-abort f) =
         make-first b (s .undecided) (rw e (b .fine)) (below-same e) (asks-none (e ∙ s .undecided .log-none))
-        (inl (λ n r k i m. absurd (f n (s .held n r k (old (c .not-enlisted) i) m)))) no-abort (inl (no-ask-calm (c .not-prepared) (s .no-ask)))
+        (inl (λ n r k i m. absurd (f n r k (s .held n r k (old (c .not-enlisted) i) m)))) no-abort (inl (no-ask-calm (c .not-prepared) (s .no-ask)))
     keep-base b s (vote-on e q not-enlisted f g p) = make-undecided b (s .undecided) e q
     keep-base b s (decide-logged e not-enlisted no-abort f g d n) =
         make-first b (s .undecided) (rw e open-fine) (rw (s .undecided .log-none) tt) (rw e (λ r m. g r (hoping s r m) .1))
@@ -482,11 +482,11 @@ module _ (t : Id) where
     keep-shape b s (gather e not-prepared q f g) = record {
       undecided = undecided-next (s .undecided) e q;
       no-ask = no-ask-calm not-prepared (s .no-ask);
-      held = λ n r k i m. ⊎-elim (λ p. g n r k (sym p) m) (λ o. f n (s .held n r k o m)) (List·Memᴰ·cases-cons i);
+      held = λ n r k i m. ⊎-elim (λ p. g n r k (sym p) m) (λ o. f n r k (s .held n r k o m)) (List·Memᴰ·cases-cons i);
     }
     keep-shape b s (prepare e c q f) = record {
       undecided = undecided-next (s .undecided) e q;
-      held = λ n r k i m. inr (f n (s .held n r k (old (c .not-enlisted) i) m));
+      held = λ n r k i m. inr (f n r k (s .held n r k (old (c .not-enlisted) i) m));
       hopes = λ r m. absurd (s .no-ask r (ask-calm (c .not-prepared) m));
     }
     keep-shape b s (ask-one {n₀ = n₀} e c q f g m) = record {
@@ -494,13 +494,13 @@ module _ (t : Id) where
       no-ask = no-ask-calm (c .not-prepared) (s .no-ask);
       number = n₀;
       numbers = g;
-      only = λ n r k i votes. f n (s .held n r k (old (c .not-enlisted) i) votes);
+      only = λ n r k i votes. f n r k (s .held n r k (old (c .not-enlisted) i) votes);
       asked = Memᴰ·append-left issued m;
     }
     keep-shape b s (commit-empty e c no-abort f) = out-shape (none-not-open (e ∙ s .undecided .log-none)) (no-ask-calm (c .not-prepared) (s .no-ask))
     keep-shape b s (vote-on e q not-enlisted f g p) = record {
       undecided = undecided-next (s .undecided) e q;
-      held = λ n r k i m. ⊎-elim (λ v. inl (voted-more x v)) (λ w. ⊎-elim (λ v. inl (vote-of h v)) inr (f n w)) (s .held n r k (old not-enlisted i) m);
+      held = λ n r k i m. ⊎-elim (λ v. inl (voted-more x v)) (λ w. ⊎-elim (λ v. inl (vote-of h v)) inr (f n r k w)) (s .held n r k (old not-enlisted i) m);
       hopes = λ r m. ⊎-elim (g r) (p r) (hoping s r m);
     }
     keep-shape b s (decide-logged {rs = rs} e not-enlisted no-abort f g d n) = record {

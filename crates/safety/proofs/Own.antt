@@ -172,7 +172,7 @@ module _ (tb : Table) (e : Event) (log : List ℕ) (t : Id) (p : ℕ) (tb₁ : T
   -- what the vote has done
   pub record Voted (hs : List Enlistment) (x : Note) : Type 0 where
     pub calm : NotEnlisted t x
-    pub preparing : (n : ℕ) → Some (Preparing n) hs → VoteOf t n x ⊎ Some (Preparing n) hs₁
+    pub preparing : (n : ℕ) (r : Id) (k : ℕ) → Some (Preparing n r k) hs → VoteOf t n r k x ⊎ Some (Preparing n r k) hs₁
     pub hopes : (r : Id) → Some (Hopes r) hs → Some (Hopes r) hs₁
     pub prepares : (r : Id) → Prepares t r x → Some (Hopes r) hs₁
 
@@ -231,8 +231,8 @@ module _ (tb : Table) (e : Event) (log : List ℕ) (t : Id) (p : ℕ) (tb₁ : T
   own-id = named-is t (transactionAt p tb₁) (z .stands .here) .1
 
   module _ (hs : List Enlistment) (shown : viewOf t tb ≡ voting hs) (id-size : length t ≡ identifierSize) (v : Voted hs (noteOf tb e)) (last : any (isIn enlistment.preparing) hs₁ ≡ false) where
-    all-voted : (n : ℕ) → Some (Preparing n) hs → VoteOf t n (noteOf tb e)
-    all-voted n h = by-either (λ y. y) (λ w. no-clash (isIn enlistment.preparing (w .it)) (eq-eqb (w .it .state) enlistment.preparing (w .holds .1)) (none-each (isIn enlistment.preparing) hs₁ last (w .it) (w .there))) (v .preparing n h)
+    all-voted : (n : ℕ) (r : Id) (k : ℕ) → Some (Preparing n r k) hs → VoteOf t n r k (noteOf tb e)
+    all-voted n r k h = by-either (λ y. y) (λ w. no-clash (isIn enlistment.preparing (w .it)) (eq-eqb (w .it .state) enlistment.preparing (w .holds .1)) (none-each (isIn enlistment.preparing) hs₁ last (w .it) (w .there))) (v .preparing n r k h)
 
     hoping : (r : Id) → Some (Hopes r) hs ⊎ Prepares t r (noteOf tb e) → Some (Hopes r) hs₁
     hoping r = by-either (v .hopes r) (v .prepares r)
@@ -430,11 +430,11 @@ module _ (tb : Table) (e : Event) (log : List ℕ) (t : Id) (p : ℕ) (tb₁ : T
   keeps-state : (s : ℕ) → Keeps (inState s)
   keeps-state s x = inl refl
 
-  module _ (hs : List Enlistment) (shown : viewOf t tb ≡ early hs) (calm : Calm t (noteOf tb e)) (unasked : (m : ℕ) → Some (Unasked m) hs → Some (Unasked m) hs₁) where
+  module _ (hs : List Enlistment) (shown : viewOf t tb ≡ early hs) (calm : Calm t (noteOf tb e)) (unasked : (n : ℕ) (r : Id) (k : ℕ) → Some (Unasked n r k) hs → Some (Unasked n r k) hs₁) where
     start-none : (stateAt p tb₁ ≡ transaction.committing → ⊥) → eqb (length hs₁) 0 ≡ true → Here (endCommitted p tb₁ log)
     unfolding endCommitted
     start-none not-committing empty = rw (unlogged-end p tb₁ log not-committing) (unlogged (emptied p tb₁) (toApp name.AppCommitted) (addressed-one tb e name.AppCommitted 0 (inl refl)) (used-emptied p tb₁) (ends-for t p tb₁ (z .stands))
-        (λ h f l a. rw (shown, view-ends t p tb₁ (z .stands)) (commit-empty refl calm (none-aborted t tb e (toApp name.AppCommitted) (only-one notAborted name.AppCommitted 0 refl)) (λ m w. empty-some hs₁ (Unasked m) empty (unasked m w)))))
+        (λ h f l a. rw (shown, view-ends t p tb₁ (z .stands)) (commit-empty refl calm (none-aborted t tb e (toApp name.AppCommitted) (only-one notAborted name.AppCommitted 0 refl)) (λ n r k w. empty-some hs₁ (Unasked n r k) empty (unasked n r k w)))))
 
     start-one : (es : List Enlistment) → hs₁ ≡ es → eqb (length es) 1 ≡ true → Here (saying (toEach name.Single hs₁) (quietly (goTo p transaction.singlePhase (changeHeld p (inState enlistment.onePhase) tb₁)) log))
     unfolding messageOf toEach sortBy insertBy
@@ -443,7 +443,7 @@ module _ (tb : Table) (e : Event) (log : List ℕ) (t : Id) (p : ℕ) (tb₁ : T
     start-one (x ∷ []) q o = unlogged (goTo p transaction.singlePhase (changeHeld p (inState enlistment.onePhase) tb₁)) (toEach name.Single hs₁) (addressed-each tb e name.Single hs₁ home) (used-goes p transaction.singlePhase (inState enlistment.onePhase) tb₁) (λ u n. goes-other t p tb₁ (z .stands) transaction.singlePhase (inState enlistment.onePhase) u (keeps-state enlistment.onePhase) n)
         (λ h f l a. rw (shown, view-goes t p tb₁ (z .stands) transaction.singlePhase (inState enlistment.onePhase) (λ q. omega arith))
         (ask-one {n₀ = x .number} refl calm (quiet t tb e (toEach name.Single hs₁) (only-each notCommitted name.Single hs₁ refl) (only-each notAborted name.Single hs₁ refl))
-        (λ m w. let y : Some (Unasked m) hs₁ = unasked m w in sym (y .holds .0) ∙ only (y .it) (y .there))
+        (λ n r k w. let y : Some (Unasked n r k) hs₁ = unasked n r k w in sym (y .holds .0 .0) ∙ only (y .it) (y .there))
         (λ y m. let c : Some (λ w. y ≡ inState enlistment.onePhase w) hs₁ = held-came p (inState enlistment.onePhase) tb₁ m in ap (λ (y : Enlistment). y .number) (c .holds) ∙ only (c .it) (c .there))
         (there q)))
       where
@@ -460,7 +460,7 @@ module _ (tb : Table) (e : Event) (log : List ℕ) (t : Id) (p : ℕ) (tb₁ : T
     start-many = unlogged (goTo p transaction.phaseOne (changeHeld p (inState enlistment.preparing) tb₁)) (toEach name.Prepare hs₁) (addressed-each tb e name.Prepare hs₁ home) (used-goes p transaction.phaseOne (inState enlistment.preparing) tb₁) (λ u n. goes-other t p tb₁ (z .stands) transaction.phaseOne (inState enlistment.preparing) u (keeps-state enlistment.preparing) n)
         (λ h f l a. rw (shown, view-goes t p tb₁ (z .stands) transaction.phaseOne (inState enlistment.preparing) (λ q. omega arith))
         (prepare refl calm (quiet t tb e (toEach name.Prepare hs₁) (only-each notCommitted name.Prepare hs₁ refl) (only-each notAborted name.Prepare hs₁ refl))
-        (λ m w. held-own (Unasked m) (Preparing m) p (inState enlistment.preparing) tb₁ (λ x _ u. ((u .0, refl), refl)) (unasked m w))))
+        (λ n r k w. held-own (Unasked n r k) (Preparing n r k) p (inState enlistment.preparing) tb₁ (λ x _ u. ((u .0, refl), refl)) (unasked n r k w))))
 
     pub own-start : (stateAt p tb₁ ≡ transaction.committing → ⊥) → Here (startPhaseOne p tb₁ log)
     unfolding startPhaseOne

@@ -48,7 +48,7 @@ use Rattle.safety.specs.World.{Note, ownerOf, told, noteOf, messageOf, s
 use Rattle.safety.specs.Host.{Prepares, Closes}
 use Rattle.safety.specs.Demand3.{Votes, Yes}
 use Rattle.safety.proofs.Alone as alone
-use Rattle.safety.proofs.Alone.{Story, Hopes, Waits, Unasked, Preparing, NoDurable}
+use Rattle.safety.proofs.Alone.{Story, Hopes, Waits, Is, Unasked, Preparing, NoDurable}
 use Rattle.safety.proofs.Move.{Calm, calm-note, nothing-calm, NotEnlisted, VoteOf, Doomed, from-early, from-voting, from-single, to-out, Move, gather, vote-on, abort, replied, told-on}
 use Rattle.safety.proofs.Top.{Agrees}
 use Rattle.safety.proofs.View.{viewOf, look, view-stands, view-changes, view-held-other, view-ends, state-held, stands-held}
@@ -314,12 +314,12 @@ module _ (tb : Table) (log : List ℕ) (n : ℕ) (s : Sound tb) (full : length l
     not-hoping : (r : Id) → Hopes r me → ⊥
     not-hoping r h = by-either (λ q. omega arith) (λ q. omega arith) (h .2)
 
-    voted-preparing : (f : Enlistment → Enlistment) → Yes v → (m : ℕ) → Some (Preparing m) hs → VoteOf t m cast ⊎ Some (Preparing m) (held p (changed f))
-    voted-preparing f yes-vote m h = go (ℕ-discrete m n)
+    voted-preparing : (f : Enlistment → Enlistment) → Yes v → (m : ℕ) (r : Id) (k : ℕ) → Some (Preparing m r k) hs → VoteOf t m r k cast ⊎ Some (Preparing m r k) (held p (changed f))
+    voted-preparing f yes-vote m r k h = go (ℕ-discrete m n)
       where
-        go : Dec (m ≡ n) → VoteOf t m cast ⊎ Some (Preparing m) (held p (changed f))
-        go (yes q) = inl (me .rm .0, me .kind, v, ap (λ k. Note.voted t k (me .rm .0) (me .kind) v) (sym q), yes-vote)
-        go (no q) = inr (keep-others (Preparing m) f (λ w. q (sym (w .0) ∙ named .number)) h)
+        go : Dec (m ≡ n) → VoteOf t m r k cast ⊎ Some (Preparing m r k) (held p (changed f))
+        go (yes q) = let i : Is m r k me = rw (named .only (h .there) (h .holds .0 .0 ∙ q)) (h .holds .0) in inl (v, rw (q, i .1, i .2) refl, yes-vote)
+        go (no q) = inr (keep-others (Preparing m r k) f (λ w. q (sym (w .0 .0) ∙ named .number)) h)
 
     abbrev HasVoted : (f : Enlistment → Enlistment) → Mild f → Type 0
     HasVoted f mild = Voted tb this-event log t p (changed f) (touched f mild) refl hs (noteOf tb this-event)
@@ -471,8 +471,8 @@ module _ (tb : Table) (log : List ℕ) (n : ℕ) (s : Sound tb) (full : length l
       no-vote : Votes (me .kind) → ⊥
       no-vote m = by-either (λ q. omega (arith, q, two .1)) (λ q. omega (arith, q, two .1)) m
 
-      unasked : (m : ℕ) → Some (Unasked m) hs → Some (Unasked m) (held p (changed freed))
-      unasked m h = keep-others (Unasked m) freed (λ q. no-vote (q .1)) h
+      unasked : (m : ℕ) (r : Id) (k : ℕ) → Some (Unasked m r k) hs → Some (Unasked m r k) (held p (changed freed))
+      unasked m r k h = keep-others (Unasked m r k) freed (λ q. no-vote (q .1)) h
 
   -- ── lost ──────────────────────────────────────────────────────────────────────────────────────────────────────
 
@@ -488,7 +488,7 @@ module _ (tb : Table) (log : List ℕ) (n : ℕ) (s : Sound tb) (full : length l
   lost-prepared state = unlogged tb lost log t p (changed (inState enlistment.preparedLost)) (touched (inState enlistment.preparedLost) (state-mild enlistment.preparedLost)) refl (changed (inState enlistment.preparedLost)) [] (addressed-nothing tb lost) refl (λ u d. refl)
       (λ h made l g. rw (view-before transaction.phaseOne three, view-after (inState enlistment.preparedLost) transaction.phaseOne three)
       (vote-on refl (quiet t tb lost [] (only-nothing notCommitted) (only-nothing notAborted)) (nothing-calm t .not-enlisted)
-      (λ m w. inr (keep-others (Preparing m) (inState enlistment.preparedLost) (λ q. omega (arith, state, q .1)) w))
+      (λ m r k w. inr (keep-others (Preparing m r k) (inState enlistment.preparedLost) (λ q. omega (arith, state, q .1)) w))
       (λ r w. held-own (Hopes r) (Hopes r) p (onNumber n (inState enlistment.preparedLost)) tb (λ e m q. by-cases (λ (v : Enlistment). Hopes r v × (v .holder ≡ e .holder)) (isNumbered n e) (inState enlistment.preparedLost e) e (λ _. ((q .0, q .1, inr refl), refl)) (λ _. (q, refl))) w)
       (λ r q. absurd (nothing-calm t .not-prepared r q))))
     where
