@@ -16,7 +16,7 @@ use Rattle.rules.specs.Log.{Entry}
 use Rattle.safety.specs.World.{Note, Message, Issued}
 use Rattle.safety.specs.Host.{MayAsk}
 use Rattle.rules.specs.Signals.{Committed, Aborted}
-use Rattle.safety.specs.Demand3.{About, Votes, VotedYes, AllVotedYes, OnlyOneCommitted}
+use Rattle.safety.specs.Demand3.{About, Votes, VotedYes, AllVotedYes, OnlyOne, OnlyOneCommitted}
 
 -- ── the story of the transaction in a log ───────────────────────────────────────────────────────────────────────
 
@@ -233,6 +233,7 @@ module _ (t : Id) where
     pub undecided : Undecided log h waiting sent
     pub no-ask : NoAsk h
     pub held : (n : ℕ) (r : Id) (k : ℕ) → Note.enlisted t n r k ∈ h → Votes k → Some (Unasked n r k) es
+    pub noted : Each (λ e. Note.enlisted t (e .number) (e .rm .0) (e .kind) ∈ h) es
 
   pub record ShapeVoting (es : List Enlistment) (log : Story) (h : List Note) (waiting sent : List Issued) : Type 0 where
     pub undecided : Undecided log h waiting sent
@@ -243,8 +244,8 @@ module _ (t : Id) where
     pub undecided : Undecided log h waiting sent
     pub no-ask : NoAsk h
     pub number : ℕ
-    pub numbers : (e : Enlistment) → e ∈ es → e .number ≡ number
-    pub only : (n : ℕ) (r : Id) (k : ℕ) → Note.enlisted t n r k ∈ h → Votes k → n ≡ number
+    pub numbers : Each (λ e. e .number ≡ number) es
+    pub one : OnlyOne t number h
     pub asked : record { about = t; name = name.Single; number = number } ∈ issued
 
   pub record ShapeCommitting (es : List Enlistment) (log : Story) (h : List Note) (waiting sent : List Issued) (issued : List Message) : Type 0 where

@@ -39,7 +39,7 @@ use Rattle.rules.proofs.Ordered.{by-number-ascends}
 use Rattle.safety.specs.World.{Note, noteOf, messageOf, subjectOf}
 use Rattle.safety.specs.Host.{Prepares, Closes, careful, Makes}
 use Rattle.safety.proofs.Alone as alone
-use Rattle.safety.proofs.Alone.{Story, closed, early, voting, aborting, Hopes, Waits, Unasked, Preparing, NoDurable, managersOf, Entered, New}
+use Rattle.safety.proofs.Alone.{Story, closed, early, voting, aborting, Hopes, Waits, Is, Unasked, Preparing, NoDurable, managersOf, Entered, New}
 use Rattle.safety.proofs.Move.{Calm, NotEnlisted, VoteOf, Doomed, from-voting, from-aborting, to-out, to-aborting, Move, prepare, ask-one, commit-empty, decide-logged, decide-unlogged, decide-empty, abort, told-on, end-logged, end-unlogged}
 use Rattle.safety.proofs.Top.{Agrees}
 use Rattle.safety.proofs.Story.{next, story, onForget, mine, Tells}
@@ -430,7 +430,8 @@ module _ (tb : Table) (e : Event) (log : List ℕ) (t : Id) (p : ℕ) (tb₁ : T
   keeps-state : (s : ℕ) → Keeps (inState s)
   keeps-state s x = inl refl
 
-  module _ (hs : List Enlistment) (shown : viewOf t tb ≡ early hs) (calm : Calm t (noteOf tb e)) (unasked : (n : ℕ) (r : Id) (k : ℕ) → Some (Unasked n r k) hs → Some (Unasked n r k) hs₁) where
+  module _ (hs : List Enlistment) (shown : viewOf t tb ≡ early hs) (calm : Calm t (noteOf tb e)) (unasked : (n : ℕ) (r : Id) (k : ℕ) → Some (Unasked n r k) hs → Some (Unasked n r k) hs₁)
+      (joined : Each (λ x. Some (Unasked (x .number) (x .rm .0) (x .kind)) hs) hs₁) where
     start-none : (stateAt p tb₁ ≡ transaction.committing → ⊥) → eqb (length hs₁) 0 ≡ true → Here (endCommitted p tb₁ log)
     unfolding endCommitted
     start-none not-committing empty = rw (unlogged-end p tb₁ log not-committing) (unlogged (emptied p tb₁) (toApp name.AppCommitted) (addressed-one tb e name.AppCommitted 0 (inl refl)) (used-emptied p tb₁) (ends-for t p tb₁ (z .stands))
@@ -442,16 +443,23 @@ module _ (tb : Table) (e : Event) (log : List ℕ) (t : Id) (p : ℕ) (tb₁ : T
     start-one (x ∷ y ∷ es) q o = absurd (omega (arith, eqb-true (length (x ∷ y ∷ es)) 1 o))
     start-one (x ∷ []) q o = unlogged (goTo p transaction.singlePhase (changeHeld p (inState enlistment.onePhase) tb₁)) (toEach name.Single hs₁) (addressed-each tb e name.Single hs₁ home) (used-goes p transaction.singlePhase (inState enlistment.onePhase) tb₁) (λ u n. goes-other t p tb₁ (z .stands) transaction.singlePhase (inState enlistment.onePhase) u (keeps-state enlistment.onePhase) n)
         (λ h f l a. rw (shown, view-goes t p tb₁ (z .stands) transaction.singlePhase (inState enlistment.onePhase) (λ q. omega arith))
-        (ask-one {n₀ = x .number} refl calm (quiet t tb e (toEach name.Single hs₁) (only-each notCommitted name.Single hs₁ refl) (only-each notAborted name.Single hs₁ refl))
-        (λ n r k w. let y : Some (Unasked n r k) hs₁ = unasked n r k w in sym (y .holds .0 .0) ∙ only (y .it) (y .there))
-        (λ y m. let c : Some (λ w. y ≡ inState enlistment.onePhase w) hs₁ = held-came p (inState enlistment.onePhase) tb₁ m in ap (λ (y : Enlistment). y .number) (c .holds) ∙ only (c .it) (c .there))
+        (ask-one {n₀ = x .number} {r₀ = x .rm .0} {k₀ = x .kind} refl calm (quiet t tb e (toEach name.Single hs₁) (only-each notCommitted name.Single hs₁ refl) (only-each notAborted name.Single hs₁ refl))
+        (joined x here)
+        (λ n r k w. same n r k (unasked n r k w))
+        (λ y m. let c : Some (λ w. y ≡ inState enlistment.onePhase w) hs₁ = held-came p (inState enlistment.onePhase) tb₁ m in ap (λ (y : Enlistment). y .number) (c .holds) ∙ ap (λ (y : Enlistment). y .number) (only (c .it) (c .there)))
         (there q)))
       where
-        only : (y : Enlistment) → y ∈ hs₁ → y .number ≡ x .number
-        only y m = ap (λ (y : Enlistment). y .number) (by-either (λ r. r) (λ r. absurd (List·Memᴰ·not-nil r)) (List·Memᴰ·cases-cons (rw q at m)))
+        only : (y : Enlistment) → y ∈ hs₁ → y ≡ x
+        only y m = by-either (λ r. r) (λ r. absurd (List·Memᴰ·not-nil r)) (List·Memᴰ·cases-cons (rw q at m))
+
+        same : (n : ℕ) (r : Id) (k : ℕ) → Some (Unasked n r k) hs₁ → (n ≡ x .number) × (r ≡ x .rm .0) × (k ≡ x .kind)
+        same n r k y = let i : Is n r k x = rw (only (y .it) (y .there)) at (y .holds .0) in (sym (i .0), sym (i .1), sym (i .2))
+
+        here : x ∈ hs₁
+        here = rw q (List·Memᴰ·head refl)
 
         mine : t ≡ messageOf tb e (signal name.Single (x .number)) .about
-        mine = sym about ∙ sym (owned-about tb e name.Single (x .number) (home x (rw q (List·Memᴰ·head refl))))
+        mine = sym about ∙ sym (owned-about tb e name.Single (x .number) (home x here))
 
         there : hs₁ ≡ x ∷ [] → record { about = t; name = name.Single; number = x .number } ∈ map (messageOf tb e) (toEach name.Single hs₁)
         there q = rw q (List·Memᴰ·head (λ i. record { about = mine i; name = name.Single; number = x .number }))

@@ -12,7 +12,7 @@ use lib.Dec.{eqb}
 use borrow.Author.Tests.{eqb-true, eqb-false, eq-eqb, ne-eqb}
 use Rattle.lists.specs.Members.{_∈_, Some, Apart}
 use Rattle.lists.specs.Lists.{any, filter}
-use Rattle.lists.proofs.Tests.{by-test, by-either, no-clash, and-true, true-and, true-or, not-true, false-not, any-some, some-any, filter-filter}
+use Rattle.lists.proofs.Tests.{by-test, by-either, no-clash, and-true, true-and, true-or, not-true, false-not, any-some, some-any, none-each, filter-filter}
 use Rattle.lists.proofs.Places.{in-places}
 use Rattle.lists.proofs.Apart.{apart-narrower, apart-changed}
 use Rattle.rules.specs.declared.Enlistment.{Enlistment}
@@ -125,6 +125,10 @@ module _ (tb : Table) (s : Sound tb) (t : Id) (p : ℕ) (at : Stands t p tb) whe
   pub held-sized : {x : Enlistment} → x ∈ held p tb → (length (x .rm .0) ≡ identifierSize) × (x .number ≤ largestNumber)
   held-sized {x} m = (s .manager-identifiers x (of-held p tb m .0) (held-live m) .0, s .numbers x (of-held p tb m .0) (held-live m) .1)
 
+  -- who is held votes, but for P
+  pub held-votes : {x : Enlistment} → x ∈ held p tb → isPhaseZero x ≡ false → Votes (x .kind)
+  held-votes {x} m n = by-either (λ q. absurd (eqb-false (x .kind) kind.phaseZero n q)) (λ q. q) (s .kinds x (of-held p tb m .0) (held-live m) .0)
+
   pub own-id-size : length t ≡ identifierSize
   own-id-size = ap length (sym (named-is t (transactionAt p tb) (at .here) .1)) ∙ id-size tb s p (named-is t (transactionAt p tb) (at .here) .0)
 
@@ -206,10 +210,13 @@ module _ (tb : Table) (log : List ℕ) (n : ℕ) (s : Sound tb) (full : length l
   mild-on : (f : Enlistment → Enlistment) → Mild f → Mild (onNumber n f)
   mild-on f mild e = by-cases (λ (w : Enlistment). ((w .holder ≡ e .holder) × (w .rm ≡ e .rm) × (w .number ≡ e .number) × (w .kind ≡ e .kind)) ⊎ (w .holder ≡ 0)) (isNumbered n e) (f e) e (λ _. mild e) (λ _. inl (refl, refl, refl, refl))
 
-  -- what is held came from what was held, with its own number
-  was : (f : Enlistment → Enlistment) → Mild f → {w : Enlistment} → w ∈ held p (changed f) → Some (λ e. (w .rm ≡ e .rm) × (w .number ≡ e .number)) hs
+  -- what is held was held, as the same
+  abbrev Was : Enlistment → Type 0
+  Was w = Some (λ e. (w .rm ≡ e .rm) × (w .number ≡ e .number) × (w .kind ≡ e .kind)) hs
+
+  was : (f : Enlistment → Enlistment) → Mild f → {w : Enlistment} → w ∈ held p (changed f) → Was w
   was f mild {w} m = by-either
-      (λ q. record { it = c .it; there = c .there; holds = (ap (λ (e : Enlistment). e .rm) (c .holds) ∙ q .1, ap (λ (e : Enlistment). e .number) (c .holds) ∙ q .2) })
+      (λ q. record { it = c .it; there = c .there; holds = (ap (λ (e : Enlistment). e .rm) (c .holds) ∙ q .1, ap (λ (e : Enlistment). e .number) (c .holds) ∙ q .2, ap (λ (e : Enlistment). e .kind) (c .holds) ∙ q .3) })
       (λ q. absurd (not-zero (named-place t p tb (named .stands .here)) (sym (of-held p (changed f) m .1) ∙ ap (λ (e : Enlistment). e .holder) (c .holds) ∙ q)))
       (mild-on f mild (c .it))
     where
@@ -262,13 +269,13 @@ module _ (tb : Table) (log : List ℕ) (n : ℕ) (s : Sound tb) (full : length l
     managers-apart = managers-apart-after f mild;
   }
     where
-      sized : (w : Enlistment) → Some (λ e. (w .rm ≡ e .rm) × (w .number ≡ e .number)) hs → (length (w .rm .0) ≡ identifierSize) × (w .number ≤ largestNumber)
+      sized : (w : Enlistment) → Was w → (length (w .rm .0) ≡ identifierSize) × (w .number ≤ largestNumber)
       sized w q = (ap (λ (r : RmId). length (r .0)) (q .holds .0) ∙ held-sized tb s t p (named .stands) (q .there) .0, rw (q .holds .1) (held-sized tb s t p (named .stands) (q .there) .1))
 
-      came : (w : Enlistment) → Some (λ e. (w .rm ≡ e .rm) × (w .number ≡ e .number)) hs → Some (λ e. (w .rm .0 ≡ e .rm .0) × (w .number ≡ e .number)) hs
+      came : (w : Enlistment) → Was w → Some (λ e. (w .rm .0 ≡ e .rm .0) × (w .number ≡ e .number)) hs
       came w q = record { it = q .it; there = q .there; holds = (ap (λ (r : RmId). r .0) (q .holds .0), q .holds .1) }
 
-      owned : (w : Enlistment) → Some (λ e. (w .rm ≡ e .rm) × (w .number ≡ e .number)) hs → Owned tb t (w .number)
+      owned : (w : Enlistment) → Was w → Owned tb t (w .number)
       owned w q = inr (rw (q .holds .1) (owner-held tb s t p (named .stands) (q .there) .1))
 
   -- another number is left alone
@@ -459,8 +466,8 @@ module _ (tb : Table) (log : List ℕ) (n : ℕ) (s : Sound tb) (full : length l
   own-zero-done state = by-cases (Own tb this-event log t) (any isPhaseZero (held p (changed freed))) _ _
       (λ _. unlogged tb this-event log t p (changed freed) (touched freed freed-mild) refl (changed freed) [] (addressed-nothing tb this-event) refl (λ u d. refl)
       (λ h made l g. rw (view-before transaction.phaseZero (two .0), view-after freed transaction.phaseZero (two .0))
-      (gather refl (nothing-calm t .not-prepared) (quiet t tb this-event [] (only-nothing notCommitted) (only-nothing notAborted)) unasked (λ m r k q w. absurd (nothing-calm t .not-enlisted m r k q)))))
-      (λ _. own-start tb this-event log t p (changed freed) (touched freed freed-mild) refl hs (view-before transaction.phaseZero (two .0)) (nothing-calm t) unasked (λ c. omega (arith, c, state-after freed transaction.phaseZero (two .0))))
+      (gather refl (nothing-calm t .not-prepared) (quiet t tb this-event [] (only-nothing notCommitted) (only-nothing notAborted)) unasked (λ m r k q w. absurd (nothing-calm t .not-enlisted m r k q)) (λ e m. inl (same e (was freed freed-mild m))))))
+      (λ none. own-start tb this-event log t p (changed freed) (touched freed freed-mild) refl hs (view-before transaction.phaseZero (two .0)) (nothing-calm t) unasked (λ e m. voting e (none-each isPhaseZero (held p (changed freed)) none e m) (was freed freed-mild m)) (λ c. omega (arith, c, state-after freed transaction.phaseZero (two .0))))
     where
       this-event : Event
       this-event = event (act.ZeroDone n)
@@ -473,6 +480,12 @@ module _ (tb : Table) (log : List ℕ) (n : ℕ) (s : Sound tb) (full : length l
 
       unasked : (m : ℕ) (r : Id) (k : ℕ) → Some (Unasked m r k) hs → Some (Unasked m r k) (held p (changed freed))
       unasked m r k h = keep-others (Unasked m r k) freed (λ q. no-vote (q .1)) h
+
+      same : (e : Enlistment) → Was e → Some (Is (e .number) (e .rm .0) (e .kind)) hs
+      same e w = record { it = w .it; there = w .there; holds = (sym (w .holds .1), sym (ap (λ (r : RmId). r .0) (w .holds .0)), sym (w .holds .2)) }
+
+      voting : (e : Enlistment) → isPhaseZero e ≡ false → Was e → Some (Unasked (e .number) (e .rm .0) (e .kind)) hs
+      voting e q w = record { it = w .it; there = w .there; holds = (same e w .holds, held-votes tb s t p (named .stands) (w .there) (ap (λ k. eqb k kind.phaseZero) (sym (w .holds .2)) ∙ q)) }
 
   -- ── lost ──────────────────────────────────────────────────────────────────────────────────────────────────────
 
