@@ -45,7 +45,7 @@ use Rattle.safety.proofs.Top.{Agrees}
 use Rattle.safety.proofs.Story.{next, story, onForget, mine, Tells}
 use Rattle.safety.proofs.View.{viewOf, look, view-stands, view-goes, goes-other, view-ends, ends-other, view-more, stands-held}
 use Rattle.safety.proofs.Open.{FitCommit, fits-commit}
-use Rattle.safety.proofs.Fitting.{Ready, Judged, judged-nothing, mine-none, mine-some, open-shown, shown-open, open-count, commit-fit, live-nonzero, forget-fit, one-forgotten}
+use Rattle.safety.proofs.Fitting.{Ready, Judged, judged-nothing, mine-none, told-open, open-shown, shown-open, open-count, commit-fit, live-nonzero, forget-fit, one-forgotten}
 use Rattle.safety.proofs.Messages.{notCommitted, notAborted, Only, only-nothing, only-one, only-each, only-both, Addressed, Owned, owned-about, addressed-nothing, addressed-one, addressed-each, addressed-both, none-committed, none-aborted, quiet}
 
 pub by-cases : {A : Type 0} (P : A → Type 0) (b : Bool) (x y : A) → (b ≡ true → P x) → (b ≡ false → P y) → P (cond b x y)
@@ -384,11 +384,7 @@ module _ (tb : Table) (e : Event) (log : List ℕ) (t : Id) (p : ℕ) (tb₁ : T
     forget-judged {used} d e = record { judged = λ os r. (rw (forget-fit t os (live-nonzero tb (r .sound) t p (z .before)) (opened os r)) refl, omega (arith, e, r .room, one-forgotten t os (opened os r))) }
       where
         opened : (os : List Open) → Ready tb log os → any (isOpenAs t) os ≡ true
-        opened os r = go (r .storied t) (rw shown at (r .agrees t)) (r .tells t)
-          where
-            go : (s : Story) → Agrees (alone.committing hs) s → Tells t s os → any (isOpenAs t) os ≡ true
-            go s (inl (rs, q, y, n)) h = let k : Tells t (alone.open-with rs) os = rw q at h in mine-some t os (k .0) (k .1)
-            go s (inr (q, y)) h = absurd (w .no-durable y (some-durable-of hs₁ d .it) (some-durable-of hs₁ d .there) (some-durable-of hs₁ d .holds))
+        opened os r = told-open tb log os r t hs shown (λ y. w .no-durable y (some-durable-of hs₁ d .it) (some-durable-of hs₁ d .there) (some-durable-of hs₁ d .holds))
 
     end-durable : any isDurable hs₁ ≡ true → all isDone hs₁ ≡ true → tb₁ .used + forgetSize ≤ length log → Here (append (Record.forget (idAt p tb₁)) (emptied p tb₁) log)
     unfolding append useMore story next allBytes recordBytes
