@@ -117,7 +117,7 @@ module _ (r : Id) (tb : Table) (log : List ℕ) (s : Sound tb) (full : length lo
 
   pub roomy-after : Roomy after log
   unfolding after
-  roomy-after = record { sized = λ q l. id-size tb s q l; room = rw (as-many, full) (s .room) }
+  roomy-after = record { sized = id-size tb s; room = rw (as-many, full) (s .room) }
 
   -- ── what it writes fits ───────────────────────────────────────────────────────────────────────────────────────
 
@@ -126,7 +126,7 @@ module _ (r : Id) (tb : Table) (log : List ℕ) (s : Sound tb) (full : length lo
   forgettable os r = record {
     opened = λ q b. opened q (sym (open-after q (stateAt q tb)) ∙ b);
     unlike = λ q k a b e. sym (stands-sound tb s (idAt q tb) q (is-named (transactionAt q tb) a) .alone k (rw e (is-named (transactionAt k tb) b)));
-    sizes = λ q a. id-size tb s q a;
+    sized = id-size tb s;
     space = r .room;
   }
     where
