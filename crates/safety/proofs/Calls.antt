@@ -42,7 +42,7 @@ use Rattle.safety.proofs.Alone as alone
 use Rattle.safety.proofs.Alone.{Story, early, Waits, Is, Unasked}
 use Rattle.safety.proofs.Move.{nothing-calm, Joins, from-early, from-aborting, to-aborting, Move, stay, begin, gather, abort, told-on, answer-out}
 use Rattle.safety.proofs.Top.{Agrees}
-use Rattle.safety.proofs.View.{viewOf, look, view-stands, view-absent, view-same, view-goes, goes-other, view-changes, view-held-other, state-none}
+use Rattle.safety.proofs.View.{viewOf, look, view-in, view-stands, view-absent, view-same, view-goes, goes-other, view-changes, view-held-other, state-none}
 use Rattle.safety.proofs.Given.{stands-sound, owner-held}
 use Rattle.safety.proofs.Messages.{notCommitted, notAborted, Only, only-nothing, only-one, only-each, Addressed, Owned, addressed-nothing, addressed-one, addressed-neutral, none-committed, none-aborted, quiet}
 use Rattle.safety.proofs.Own.{by-cases, Own, unwritten, unlogged, used-goes, own-abort, own-start}
@@ -70,8 +70,7 @@ module _ (tb : Table) (log : List ℕ) (s : Sound tb) (x : TxId) (y : RmId) wher
   event a = record { tx = x; rm = y; act = a }
 
   view-here : (k : ℕ) → stateAt p tb ≡ k → viewOf t tb ≡ look k hs
-  unfolding viewOf
-  view-here k q = ap (λ k. look k hs) q
+  view-here = view-in t p tb refl
 
   -- ── Begin ─────────────────────────────────────────────────────────────────────────────────────────────────────
 

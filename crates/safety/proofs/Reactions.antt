@@ -42,7 +42,7 @@ use Rattle.rules.specs.Log.{forgetSize}
 use Rattle.rules.specs.Signals.{toApp}
 use Rattle.rules.specs.Events.{Outcome, quietly, saying, toVote, toReply, toLost, reactionOf, follow, react}
 use Rattle.rules.specs.Refusals.{isRefused}
-use Rattle.rules.proofs.Frames.{of-held, held-came, held-own, held-shorter, named-is, named-other, named-place, not-zero, Stands}
+use Rattle.rules.proofs.Frames.{of-held, held-came, held-own, held-shorter, named-is, named-other, named-place, not-zero, Stands, stands-place}
 use Rattle.rules.proofs.Parts.{used-emptied}
 use Rattle.safety.specs.World.{Note, ownerOf, told, noteOf, messageOf, subjectOf}
 use Rattle.safety.specs.Host.{Prepares, Closes}
@@ -51,7 +51,7 @@ use Rattle.safety.proofs.Alone as alone
 use Rattle.safety.proofs.Alone.{Story, Hopes, Waits, Is, Unasked, Preparing, NoDurable}
 use Rattle.safety.proofs.Move.{Calm, calm-note, nothing-calm, NotEnlisted, VoteOf, Doomed, from-early, from-voting, from-single, to-out, Move, gather, vote-on, abort, replied, told-on}
 use Rattle.safety.proofs.Top.{Agrees}
-use Rattle.safety.proofs.View.{viewOf, look, view-stands, view-changes, view-held-other, view-ends, state-held, stands-held}
+use Rattle.safety.proofs.View.{viewOf, look, view-in, view-changes, view-held-other, view-ends, state-held, stands-held}
 use Rattle.safety.proofs.Given.{id-size, owner-held, Row, in-active, in-zero, in-voting, in-single, in-commit, in-abort, Named}
 use Rattle.safety.proofs.Messages.{notCommitted, notAborted, only-nothing, only-one, Owned, addressed-nothing, addressed-one, none-committed, none-aborted, quiet}
 use Rattle.safety.proofs.Own.{by-cases, Own, Touched, unlogged, unlogged-end, ends-for, own-abort, Voted, own-decide, own-end-aborting, own-end-committing, own-start}
@@ -295,7 +295,7 @@ module _ (tb : Table) (log : List ℕ) (n : ℕ) (s : Sound tb) (full : length l
 
   -- the view before and after, by the state of the transaction
   view-before : (k : ℕ) → stateAt p tb ≡ k → viewOf t tb ≡ look k hs
-  view-before k q = view-stands t p tb (named .stands) ∙ ap (λ k. look k hs) q
+  view-before = view-in t p tb (stands-place t p tb (named .stands))
 
   view-after : (f : Enlistment → Enlistment) (k : ℕ) → stateAt p tb ≡ k → viewOf t (changed f) ≡ look k (held p (changed f))
   view-after f k q = view-changes t p tb (named .stands) (onNumber n f) ∙ ap (λ k. look k (held p (changed f))) q

@@ -26,7 +26,7 @@ use Rattle.rules.specs.Table.{noTransaction, isNamed, placeNamed, transactionAt
 use Rattle.rules.specs.Sound.{Sound, HoldsWell, In, Durable, isOpen, openPlaces, openCount, active, phase-zero, phase-one, single-phase, committing, aborting}
 use Rattle.rules.specs.Events.{doneFor, byIdentifier, finished, endEach, reenlistedOf}
 use Rattle.rules.proofs.Identifiers.{same-equal}
-use Rattle.rules.proofs.Frames.{named-found, none-absent, named-place, Stands, Absent, is-named}
+use Rattle.rules.proofs.Frames.{named-found, none-absent, named-place, Stands, Absent, stands-place, is-named}
 use Rattle.rules.specs.Restart.{Open, isOpenAs}
 use Rattle.safety.specs.World.{Note}
 use Rattle.safety.specs.Host.{Closes}
@@ -35,7 +35,7 @@ use Rattle.safety.proofs.Alone.{Story, closed, View, out, Waits, NoDura
 use Rattle.safety.proofs.Move.{Quiet, Calm, calm-note, Move, stay, told-on, end-logged}
 use Rattle.safety.proofs.Top.{Agrees}
 use Rattle.safety.proofs.Story.{story, onForget}
-use Rattle.safety.proofs.View.{viewOf, look, view-stands, view-absent}
+use Rattle.safety.proofs.View.{viewOf, look, view-in, view-stands, view-absent}
 use Rattle.safety.proofs.Given.{stands-sound, id-size, row}
 use Rattle.safety.proofs.Own.{by-cases}
 use Rattle.safety.proofs.Reactions.{live, of-commit}
@@ -138,7 +138,7 @@ module _ (r : Id) (tb : Table) (log : List ℕ) (s : Sound tb) (full : length lo
           y (w .it) (w .there) (eqb-true (w .it .kind) kind.durable (w .holds))
 
       shows : (q : ℕ) → isOpen (stateAt q tb) (held q tb) ≡ true → viewOf (idAt q tb) tb ≡ alone.committing (held q tb)
-      shows q b = view-stands (idAt q tb) q tb (at q b) ∙ ap (λ n. look n (held q tb)) (live-open (stateAt q tb) (held q tb) b)
+      shows q b = view-in (idAt q tb) q tb (stands-place (idAt q tb) q tb (at q b)) transaction.committing (live-open (stateAt q tb) (held q tb) b)
 
       opened : (q : ℕ) → isOpen (stateAt q tb) (held q tb) ≡ true → (isZero (idAt q tb) ≡ false) × (any (isOpenAs (idAt q tb)) os ≡ true)
       opened q b = (live-nonzero tb s (idAt q tb) q (at q b), told-open tb log os r (idAt q tb) (held q tb) (shows q b) (durable q b))
