@@ -16,7 +16,7 @@ use Rattle.rules.specs.Log.{Entry}
 use Rattle.safety.specs.World.{Note, Message, Issued}
 use Rattle.safety.specs.Host.{MayAsk}
 use Rattle.rules.specs.Signals.{Committed, Aborted}
-use Rattle.safety.specs.Demand3.{About, Votes, VotedYes, AllVotedYes, OnlyOneCommitted}
+use Rattle.safety.specs.Demand3.{About, Votes, VotedYes, AllVotedYes, OnlyOne, OnlyOneCommitted}
 
 -- ── the story of the transaction in a log ───────────────────────────────────────────────────────────────────────
 
@@ -155,11 +155,15 @@ Hopes r e = Durable e × (e .rm .0 ≡ r) × (In enlistment.prepared e ⊎ In en
 abbrev pub Waits : Id → Enlistment → Type 0
 Waits r e = Durable e × (e .rm .0 ≡ r) × (In enlistment.toldCommit e ⊎ In enlistment.failedToNotify e)
 
-abbrev pub Unasked : ℕ → Enlistment → Type 0
-Unasked n e = (e .number ≡ n) × Votes (e .kind)
+-- number, resource manager and kind, as they were accepted
+abbrev pub Is : ℕ → Id → ℕ → Enlistment → Type 0
+Is n r k e = (e .number ≡ n) × (e .rm .0 ≡ r) × (e .kind ≡ k)
 
-abbrev pub Preparing : ℕ → Enlistment → Type 0
-Preparing n e = (e .number ≡ n) × In enlistment.preparing e
+abbrev pub Unasked : ℕ → Id → ℕ → Enlistment → Type 0
+Unasked n r k e = Is n r k e × Votes (e .kind)
+
+abbrev pub Preparing : ℕ → Id → ℕ → Enlistment → Type 0
+Preparing n r k e = Is n r k e × In enlistment.preparing e
 
 abbrev pub NoDurable : List Enlistment → Type 0
 NoDurable es = Each (λ e. Durable e → ⊥) es
@@ -228,19 +232,20 @@ module _ (t : Id) where
   pub record ShapeEarly (es : List Enlistment) (log : Story) (h : List Note) (waiting sent : List Issued) : Type 0 where
     pub undecided : Undecided log h waiting sent
     pub no-ask : NoAsk h
-    pub held : (n : ℕ) (r : Id) (k : ℕ) → Note.enlisted t n r k ∈ h → Votes k → Some (Unasked n) es
+    pub held : (n : ℕ) (r : Id) (k : ℕ) → Note.enlisted t n r k ∈ h → Votes k → Some (Unasked n r k) es
+    pub noted : Each (λ e. Note.enlisted t (e .number) (e .rm .0) (e .kind) ∈ h) es
 
   pub record ShapeVoting (es : List Enlistment) (log : Story) (h : List Note) (waiting sent : List Issued) : Type 0 where
     pub undecided : Undecided log h waiting sent
-    pub held : (n : ℕ) (r : Id) (k : ℕ) → Note.enlisted t n r k ∈ h → Votes k → VotedYes t n h ⊎ Some (Preparing n) es
+    pub held : (n : ℕ) (r : Id) (k : ℕ) → Note.enlisted t n r k ∈ h → Votes k → VotedYes t n r k h ⊎ Some (Preparing n r k) es
     pub hopes : (r : Id) → MayAsk t r h → Some (Hopes r) es
 
   pub record ShapeSingle (es : List Enlistment) (log : Story) (h : List Note) (waiting sent : List Issued) (issued : List Message) : Type 0 where
     pub undecided : Undecided log h waiting sent
     pub no-ask : NoAsk h
     pub number : ℕ
-    pub numbers : (e : Enlistment) → e ∈ es → e .number ≡ number
-    pub only : (n : ℕ) (r : Id) (k : ℕ) → Note.enlisted t n r k ∈ h → Votes k → n ≡ number
+    pub numbers : Each (λ e. e .number ≡ number) es
+    pub one : OnlyOne t number h
     pub asked : record { about = t; name = name.Single; number = number } ∈ issued
 
   pub record ShapeCommitting (es : List Enlistment) (log : Story) (h : List Note) (waiting sent : List Issued) (issued : List Message) : Type 0 where

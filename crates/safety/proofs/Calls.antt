@@ -2,17 +2,17 @@
 -- its moves.
 use Prim.Native.Nat.{ℕ}
 use native.Mathlib.Omega.{arith}
-use mathlib.Core.Path.{_≡_, refl, sym, _∙_, ap}
+use mathlib.Core.Path.{_≡_, refl, sym, _∙_, ap, subst}
 use mathlib.Core.Logic.{_⊎_, inl, inr}
 use mathlib.Core.Bool.{Bool, true, false, cond, _&&_}
 use mathlib.Core.List.{List, [], _∷_, map}
 use lib.Dec.{eqb}
 use borrow.Author.Tests.{eqb-true, eqb-false, ne-eqb}
-use Rattle.lists.specs.Members.{_∈_, Some}
+use Rattle.lists.specs.Members.{_∈_, Each, Some}
 use Rattle.lists.specs.Lists.{any, filter, firstOr}
 use Rattle.lists.specs.Places.{placeOf, putLowest}
-use Rattle.lists.proofs.Tests.{by-test, by-either, no-clash, is-false, true-or, first-passes, first-none}
-use Rattle.lists.proofs.Places.{place-first, put-is, put-there, put-keeps, filter-put}
+use Rattle.lists.proofs.Tests.{by-test, by-either, no-clash, is-false, true-or, none-each, first-passes, first-none}
+use Rattle.lists.proofs.Places.{IsFirst, place-first, put-is, put-there, put-keeps, of-put, filter-put}
 use Rattle.rules.specs.declared.Transaction.{Transaction}
 use Rattle.rules.specs.declared.Enlistment.{Enlistment}
 use Rattle.rules.specs.declared.Table.{Table}
@@ -34,19 +34,19 @@ use Rattle.rules.specs.Sound.{Sound, Durable}
 use Rattle.rules.specs.Signals.{signal, toEach, Committed}
 use Rattle.rules.specs.Events.{quietly, saying, abortOf, beginOf, kindOf, zeroAtOnce, newEnlistment, enlistOf, zeroedOf, commitOf, isUndone, isOver, toldAgain, askOf}
 use Rattle.rules.proofs.Identifiers.{same-refl}
-use Rattle.rules.proofs.Frames.{Keeps, of-held, in-held, held-came, held-own, held-transaction, named-is, named-other, named-found, none-absent, Stands, Absent, at-own, at-other, place-kept}
+use Rattle.rules.proofs.Frames.{Keeps, of-held, in-held, held-came, held-own, held-transaction, named-is, named-other, named-found, none-absent, not-zero, Stands, Absent, at-own, at-other, place-kept}
 use Rattle.safety.specs.World.{Note, told, messageOf}
 use Rattle.safety.specs.Host.{Prepares, MayAsk}
 use Rattle.safety.specs.Demand3.{Votes}
 use Rattle.safety.proofs.Alone as alone
-use Rattle.safety.proofs.Alone.{Story, early, Waits, Unasked}
-use Rattle.safety.proofs.Move.{nothing-calm, from-early, from-aborting, to-aborting, Move, stay, begin, gather, abort, told-on, answer-out}
+use Rattle.safety.proofs.Alone.{Story, early, Waits, Is, Unasked}
+use Rattle.safety.proofs.Move.{nothing-calm, Joins, from-early, from-aborting, to-aborting, Move, stay, begin, gather, abort, told-on, answer-out}
 use Rattle.safety.proofs.Top.{Agrees}
-use Rattle.safety.proofs.View.{viewOf, look, view-stands, view-absent, view-same, view-goes, goes-other, view-changes, view-held-other, state-none}
+use Rattle.safety.proofs.View.{viewOf, look, view-in, view-stands, view-absent, view-same, view-goes, goes-other, view-changes, view-held-other, state-none}
 use Rattle.safety.proofs.Given.{stands-sound, owner-held}
 use Rattle.safety.proofs.Messages.{notCommitted, notAborted, Only, only-nothing, only-one, only-each, Addressed, Owned, addressed-nothing, addressed-one, addressed-neutral, none-committed, none-aborted, quiet}
 use Rattle.safety.proofs.Own.{by-cases, Own, unwritten, unlogged, used-goes, own-abort, own-start}
-use Rattle.safety.proofs.Reactions.{untouched}
+use Rattle.safety.proofs.Reactions.{held-votes, untouched}
 
 -- a change of the transaction at p is none of one that stands elsewhere
 view-transaction-other : (u : Id) (p : ℕ) (f : Transaction → Transaction) (tb : Table) → isNamed u (transactionAt p tb) ≡ false → isNamed u (f (transactionAt p tb)) ≡ false → viewOf u (changeTransaction p f tb) ≡ viewOf u tb
@@ -70,8 +70,7 @@ module _ (tb : Table) (log : List ℕ) (s : Sound tb) (x : TxId) (y : RmId) wher
   event a = record { tx = x; rm = y; act = a }
 
   view-here : (k : ℕ) → stateAt p tb ≡ k → viewOf t tb ≡ look k hs
-  unfolding viewOf
-  view-here k q = ap (λ k. look k hs) q
+  view-here = view-in t p tb refl
 
   -- ── Begin ─────────────────────────────────────────────────────────────────────────────────────────────────────
 
@@ -115,10 +114,21 @@ module _ (tb : Table) (log : List ℕ) (s : Sound tb) (x : TxId) (y : RmId) wher
     unfolding new
     begun-view = view-stands t q begun at ∙ ap (λ (w : Transaction). look (w .state) (held q begun)) stands-at
 
+    -- what is held names a live transaction, and this place was free
+    none-yet : Each (λ _. ⊥) (held q begun)
+    unfolding begun changeTransaction
+    none-yet e m = s .holders-live e (w .0) (λ z. not-zero (free .is-place) (sym (w .1) ∙ z)) (rw (w .1) (eqb-true (transactionAt q tb .state) 0 (free .passes)))
+      where
+        free : IsFirst isFree noTransaction (tb .transactions) q
+        free = place-first isFree noTransaction (tb .transactions) room
+
+        w : (e ∈ tb .enlistments) × (e .holder ≡ q)
+        w = of-held q begun m
+
     own-begun : Own tb (event act.Begin) log t (quietly begun log)
     unfolding told
     own-begun = unwritten tb (event act.Begin) log t begun [] (addressed-nothing tb (event act.Begin)) used-begun begun-other
-        (λ h made l a. rw (view-absent t tb absent, begun-view) (begin refl made refl (quiet t tb (event act.Begin) [] (only-nothing notCommitted) (only-nothing notAborted))))
+        (λ h made l a. rw (view-absent t tb absent, begun-view) (begin refl made refl (quiet t tb (event act.Begin) [] (only-nothing notCommitted) (only-nothing notAborted)) none-yet))
 
     pub own-begin : Own tb (event act.Begin) log t (beginOf t tb log)
     own-begin = rw begin-is own-begun
@@ -132,6 +142,12 @@ module _ (tb : Table) (log : List ℕ) (s : Sound tb) (x : TxId) (y : RmId) wher
     zeroed-kept : (P : Enlistment → Type 0) → ((e : Enlistment) → P e → P (inState enlistment.zero e)) → (e : Enlistment) → P e → P (zeroedOf e) × (zeroedOf e .holder ≡ e .holder)
     zeroed-kept P f e q = by-cases (λ (w : Enlistment). P w × (w .holder ≡ e .holder)) (isPhaseZero e) (inState enlistment.zero e) e (λ _. (f e q, refl)) (λ _. (q, refl))
 
+    zeroed-was : (e : Enlistment) → Some (λ w. e ≡ zeroedOf w) hs → Some (Is (e .number) (e .rm .0) (e .kind)) hs
+    zeroed-was e c = record { it = c .it; there = c .there; holds = subst (λ (w : Enlistment). Is (w .number) (w .rm .0) (w .kind) (c .it)) (sym (c .holds)) (same (c .it)) }
+      where
+        same : (e : Enlistment) → Is (zeroedOf e .number) (zeroedOf e .rm .0) (zeroedOf e .kind) e
+        same e = by-cases (λ (w : Enlistment). Is (w .number) (w .rm .0) (w .kind) e) (isPhaseZero e) (inState enlistment.zero e) e (λ _. (refl, refl, refl)) (λ _. (refl, refl, refl))
+
     zeroed-keeps : Keeps zeroedOf
     zeroed-keeps e = by-cases (λ (w : Enlistment). (w .holder ≡ e .holder) ⊎ (w .holder ≡ 0)) (isPhaseZero e) (inState enlistment.zero e) e (λ _. inl refl) (λ _. inl refl)
 
@@ -141,9 +157,10 @@ module _ (tb : Table) (log : List ℕ) (s : Sound tb) (x : TxId) (y : RmId) wher
         (λ _. unlogged tb this-event log t p tb (untouched tb s t p at-p) refl tb₂ ss (addressed-neutral tb this-event ss (only-each notCommitted name.Zero phase-zeros refl) (only-each notAborted name.Zero phase-zeros refl)) (used-goes p transaction.phaseZero zeroedOf tb) (λ u d. goes-other t p tb at-p transaction.phaseZero zeroedOf u zeroed-keeps d)
         (λ h made l a. rw (view-here transaction.active state, view-goes t p tb at-p transaction.phaseZero zeroedOf (λ q. omega arith))
         (gather refl (nothing-calm t .not-prepared) (quiet t tb this-event ss (only-each notCommitted name.Zero phase-zeros refl) (only-each notAborted name.Zero phase-zeros refl))
-        (λ m w. held-own (Unasked m) (Unasked m) p zeroedOf tb (λ e _ q. zeroed-kept (Unasked m) (λ e q. q) e q) w)
-        (λ m r k q w. absurd (nothing-calm t .not-enlisted m r k q)))))
-        (λ _. own-start tb this-event log t p tb (untouched tb s t p at-p) refl hs (view-here transaction.active state) (nothing-calm t) (λ m w. w) (λ c. omega (arith, c, state)))
+        (λ m r k w. held-own (Unasked m r k) (Unasked m r k) p zeroedOf tb (λ e _ q. zeroed-kept (Unasked m r k) (λ e q. q) e q) w)
+        (λ m r k q w. absurd (nothing-calm t .not-enlisted m r k q))
+        (λ e m. inl (zeroed-was e (held-came p zeroedOf tb m))))))
+        (λ n. own-start tb this-event log t p tb (untouched tb s t p at-p) refl hs (view-here transaction.active state) (nothing-calm t) (λ m r k w. w) (λ e m. record { it = e; there = m; holds = ((refl, refl, refl), held-votes tb s t p at-p m (none-each isPhaseZero hs n e m)) }) (λ c. omega (arith, c, state)))
       where
         this-event : Event
         this-event = event act.Commit
@@ -173,9 +190,9 @@ module _ (tb : Table) (log : List ℕ) (s : Sound tb) (x : TxId) (y : RmId) wher
       enlisted : Table
       enlisted = withEnlistments (putLowest isVacant joined (tb .enlistments)) tb
 
-      joined-is : (joined .holder ≡ p) × (joined .number ≡ n) × (joined .kind ≡ kindOf k)
+      joined-is : (joined .holder ≡ p) × (joined .number ≡ n) × (joined .rm .0 ≡ r) × (joined .kind ≡ kindOf k)
       unfolding joined newEnlistment
-      joined-is = (refl, refl, refl)
+      joined-is = (refl, refl, refl, refl)
 
       enlist-is : enlistOf p n r k m tb log ≡ saying (cond (zeroAtOnce k (stateAt p tb)) (signal name.Zero n ∷ []) []) (quietly enlisted log)
       unfolding enlistOf enlisted joined
@@ -213,14 +230,27 @@ module _ (tb : Table) (log : List ℕ) (s : Sound tb) (x : TxId) (y : RmId) wher
       not-prepared : (q : Id) → Prepares t q (Note.enlisted t n r (kindOf k)) → ⊥
       not-prepared q (j, w) = let z : _≡_ {A = ℕ} 0 1 = cc in omega arith
 
-      is-new : (j : ℕ) (q : Id) (i : ℕ) → Note.enlisted t n r (kindOf k) ≡ Note.enlisted t j q i → Votes i → Some (Unasked j) (held p enlisted)
-      is-new j q i w v = record { it = joined; there = enlisted-new; holds = (joined-is .1 ∙ number j q i w, rw (joined-is .2 ∙ kinds j q i w) v) }
+      is-new : (j : ℕ) (q : Id) (i : ℕ) → Note.enlisted t n r (kindOf k) ≡ Note.enlisted t j q i → Votes i → Some (Unasked j q i) (held p enlisted)
+      is-new j q i w v = record { it = joined; there = enlisted-new; holds = ((joined-is .1 ∙ number j q i w, joined-is .2 ∙ manager j q i w, joined-is .3 ∙ kinds j q i w), rw (joined-is .3 ∙ kinds j q i w) v) }
         where
           number : (j : ℕ) (q : Id) (i : ℕ) → Note.enlisted t n r (kindOf k) ≡ Note.enlisted t j q i → n ≡ j
           number j q i w = cc
 
+          manager : (j : ℕ) (q : Id) (i : ℕ) → Note.enlisted t n r (kindOf k) ≡ Note.enlisted t j q i → r ≡ q
+          manager j q i w = cc
+
           kinds : (j : ℕ) (q : Id) (i : ℕ) → Note.enlisted t n r (kindOf k) ≡ Note.enlisted t j q i → kindOf k ≡ i
           kinds j q i w = cc
+
+      came : Each (Joins t (Note.enlisted t n r (kindOf k)) hs) (held p enlisted)
+      unfolding enlisted
+      came e m = by-either
+          (λ q. inr (tells ∙ ap (λ (w : Enlistment). Note.enlisted t (w .number) (w .rm .0) (w .kind)) (sym q)))
+          (λ q. inl (record { it = e; there = in-held p tb q (of-held p enlisted m .1); holds = (refl, refl, refl) }))
+          (of-put isVacant joined (tb .enlistments) (of-held p enlisted m .0))
+        where
+          tells : Note.enlisted t n r (kindOf k) ≡ Note.enlisted t (joined .number) (joined .rm .0) (joined .kind)
+          tells = rw (joined-is .1, joined-is .2, joined-is .3) refl
 
       used-enlisted : enlisted .used ≡ tb .used
       unfolding enlisted
@@ -229,7 +259,7 @@ module _ (tb : Table) (log : List ℕ) (s : Sound tb) (x : TxId) (y : RmId) wher
       own-enlisted : Own tb this-event log t (saying ss (quietly enlisted log))
       unfolding told
       own-enlisted = unwritten tb this-event log t enlisted ss (addressed-neutral tb this-event ss (only-zero notCommitted refl) (only-zero notAborted refl)) used-enlisted enlisted-other
-          (λ h made l a. rw (is-early state, enlisted-view) (gather refl not-prepared (quiet t tb this-event ss (only-zero notCommitted refl) (only-zero notAborted refl)) (λ j w. enlisted-keeps (Unasked j) w) is-new))
+          (λ h made l a. rw (is-early state, enlisted-view) (gather refl not-prepared (quiet t tb this-event ss (only-zero notCommitted refl) (only-zero notAborted refl)) (λ j q i w. enlisted-keeps (Unasked j q i) w) is-new came))
 
       pub own-enlist : Own tb this-event log t (enlistOf p n r k m tb log)
       own-enlist = rw enlist-is own-enlisted

@@ -77,9 +77,9 @@ module _ (t : Id) (storyOf : List ℕ → Story) (log disk : Story) (h : List No
 
   pub shape-leave : (v : View) → Shape t v log h waiting sent issued → (i : Issued) → i ∈ waiting → Shape t v log h waiting (i ∷ sent) issued
   shape-leave out s i m = record { not-open = s .not-open; no-ask = λ c. s .no-ask (left Committed i m c) }
-  shape-leave (early es) s i m = record { undecided = undecided-leave i m (s .undecided); no-ask = s .no-ask; held = s .held }
+  shape-leave (early es) s i m = record { undecided = undecided-leave i m (s .undecided); no-ask = s .no-ask; held = s .held; noted = s .noted }
   shape-leave (voting es) s i m = record { undecided = undecided-leave i m (s .undecided); held = s .held; hopes = s .hopes }
-  shape-leave (single es) s i m = record { undecided = undecided-leave i m (s .undecided); no-ask = s .no-ask; number = s .number; numbers = s .numbers; only = s .only; asked = s .asked }
+  shape-leave (single es) s i m = record { undecided = undecided-leave i m (s .undecided); no-ask = s .no-ask; number = s .number; numbers = s .numbers; one = s .one; asked = s .asked }
   shape-leave (committing es) s i m = record {
     begun = s .begun;
     no-aborted = λ c. s .no-aborted (left Aborted i m c);

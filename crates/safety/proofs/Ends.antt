@@ -31,6 +31,7 @@ use Rattle.safety.proofs.Story.{next, story, story-append, onForget, va
 use Rattle.safety.proofs.Open.{open-both, fitting-both}
 use Rattle.safety.proofs.Fitting.{forget-fit, one-forgotten}
 use Rattle.safety.proofs.View.{state-none, viewOf, look, view-absent, ends-other, freed-keeps}
+use Rattle.safety.proofs.Given.{Sized}
 use Rattle.safety.proofs.Own.{by-cases}
 
 -- ── how many places pass ────────────────────────────────────────────────────────────────────────────────────────
@@ -63,7 +64,7 @@ module _ {A : Type 0} (f g : ℕ → A → Bool) (h : A → A) (p : ℕ) (same :
 
 -- the identifiers of the live ones can be written, and there is room for the forget records of the open ones
 pub record Roomy (tb : Table) (log : List ℕ) : Type 0 where
-  pub sized : (p : ℕ) → isLive (transactionAt p tb) ≡ true → length (idAt p tb) ≡ identifierSize
+  pub sized : Sized tb
   pub room : tb .used + forgetSize * openCount tb ≤ length log
 
 -- what is written when the transaction at p ends
@@ -119,14 +120,23 @@ module _ (p : ℕ) (tb : Table) (log : List ℕ) where
   unfolding changeHeld
   ends-elsewhere q d = ends-at q ∙ at-other p ended (changeHeld p freed tb) q d
 
+  ends-gone : transactionAt p (o .table) ≡ noTransaction
+  ends-gone = ends-at p ∙ at-changed p ended (changeHeld p freed tb) (λ c. c) (λ c. c)
+
+  -- who is live afterwards was, as it is
+  ends-live : (q : ℕ) → isLive (transactionAt q (o .table)) ≡ true → transactionAt q (o .table) ≡ transactionAt q tb
+  ends-live q l = ends-elsewhere q (λ e. no-clash (isLive (transactionAt q (o .table))) l (ap (λ k. isLive (transactionAt k (o .table))) e ∙ ap isLive ends-gone))
+
+  ends-sized : Sized tb → Sized (o .table)
+  ends-sized sized q l = ap (λ (x : Transaction). length (x .id .0)) (ends-live q l) ∙ sized q (ap isLive (sym (ends-live q l)) ∙ l)
+
   module _ (g : Roomy tb log) where
     ends-valid : Each Valid (forgetOf p tb)
     unfolding forgetOf
     ends-valid = by-test (isOpen (stateAt p tb) (held p tb)) (λ b. rw b (each-more (valid-forget (g .sized p (open-live p tb b))) (each-nothing Valid))) (λ b. rw b (each-nothing Valid))
 
     forget-length : isOpen (stateAt p tb) (held p tb) ≡ true → length (recordBytes (Record.forget (idAt p tb))) ≡ forgetSize
-    unfolding recordBytes
-    forget-length b = rw (g .sized p (open-live p tb b)) refl
+    forget-length b = forget-size (idAt p tb) (g .sized p (open-live p tb b))
 
     -- one open transaction less
     fewer : isOpen (stateAt p tb) (held p tb) ≡ true → suc (openCount (emptied p tb)) ≤ openCount tb
@@ -172,12 +182,7 @@ module _ (p : ℕ) (tb : Table) (log : List ℕ) where
     ends-bytes = next-end .bytes
 
     pub ends-roomy : Roomy (o .table) (o .log)
-    ends-roomy = record { room = next-end .room; sized = sized }
-      where
-        sized : (q : ℕ) → isLive (transactionAt q (o .table)) ≡ true → length (idAt q (o .table)) ≡ identifierSize
-        sized q l = by-test (eqb q p)
-            (λ e. no-clash (isLive (transactionAt p (o .table))) (rw (eqb-true q p e) at l) (ap isLive (ends-at p) ∙ at-changed p ended (changeHeld p freed tb) (λ c. ap isLive c) (λ c. ap isLive c)))
-            (λ e. ap (λ (x : Transaction). length (x .id .0)) (ends-elsewhere q (eqb-false q p e)) ∙ g .sized q (ap isLive (sym (ends-elsewhere q (eqb-false q p e))) ∙ l))
+    ends-roomy = record { room = next-end .room; sized = ends-sized (g .sized) }
 
   -- ── to another transaction ────────────────────────────────────────────────────────────────────────────────────
 
@@ -273,7 +278,7 @@ each-own t p (q ∷ ps) tb log s m b = by-test (eqb p q)
 pub record Forgettable (tb : Table) (n : ℕ) (os : List Open) : Type 0 where
   pub opened : (q : ℕ) → isOpen (stateAt q tb) (held q tb) ≡ true → (isZero (idAt q tb) ≡ false) × (any (isOpenAs (idAt q tb)) os ≡ true)
   pub unlike : (q k : ℕ) → isLive (transactionAt q tb) ≡ true → isLive (transactionAt k tb) ≡ true → idAt q tb ≡ idAt k tb → q ≡ k
-  pub sizes : (q : ℕ) → isLive (transactionAt q tb) ≡ true → length (idAt q tb) ≡ identifierSize
+  pub sized : Sized tb
   pub space : tb .used + forgetSize * length os ≤ n
 
 module _ (p : ℕ) (tb : Table) (log : List ℕ) (n : ℕ) (os : List Open) (g : Forgettable tb n os) where
@@ -313,18 +318,15 @@ module _ (p : ℕ) (tb : Table) (log : List ℕ) (n : ℕ) (os : List Open) (g :
 
   end-space : tb′ .used + forgetSize * length os′ ≤ n
   end-space = by-test (isOpen (stateAt p tb) (held p tb))
-      (λ b. omega (arith, open-used b, forget-size (idAt p tb) (g .sizes p (open-live p tb b)), g .space, open-forgets b))
+      (λ b. omega (arith, open-used b, forget-size (idAt p tb) (g .sized p (open-live p tb b)), g .space, open-forgets b))
       (λ b. omega (arith, closed-used b, closed-keeps b, g .space))
-
-  gone : transactionAt p tb′ ≡ noTransaction
-  gone = ends-at p tb log p ∙ at-changed p ended (changeHeld p freed tb) (λ c. c) (λ c. c)
 
   -- who is open afterwards was open, and is another
   still-open : (q : ℕ) → isOpen (stateAt q tb′) (held q tb′) ≡ true → ((q ≡ p → ⊥) × (isOpen (stateAt q tb) (held q tb) ≡ true))
   still-open q b = (other, sym (ends-open p tb log q other somewhere) ∙ b)
     where
       other : q ≡ p → ⊥
-      other e = omega (arith, live-open (stateAt q tb′) (held q tb′) b, ap (λ k. stateAt k tb′) e, ap (λ (x : Transaction). x .state) gone)
+      other e = omega (arith, live-open (stateAt q tb′) (held q tb′) b, ap (λ k. stateAt k tb′) e, ap (λ (x : Transaction). x .state) (ends-gone p tb log))
 
       somewhere : q ≡ 0 → ⊥
       somewhere e = omega (arith, live-open (stateAt q tb′) (held q tb′) b, ap (λ k. stateAt k tb′) e, state-none tb′)
@@ -344,9 +346,6 @@ module _ (p : ℕ) (tb : Table) (log : List ℕ) (n : ℕ) (os : List Open) (g :
                 d (g .unlike q p (open-live q tb b) (open-live p tb c) (sym (same-equal (s .it .id) (idAt q tb) (s .holds)) ∙ same-equal (s .it .id) (idAt p tb) e)))));
           })
 
-  live-before : (q : ℕ) → isLive (transactionAt q tb′) ≡ true → (q ≡ p → ⊥)
-  live-before q l e = absurd (no-clash (isLive (transactionAt q tb′)) l (ap (λ k. isLive (transactionAt k tb′)) e ∙ ap isLive gone))
-
   next-forgettable : Forgettable tb′ n os′
   next-forgettable = record {
     opened = λ q b. (
@@ -354,12 +353,12 @@ module _ (p : ℕ) (tb : Table) (log : List ℕ) (n : ℕ) (os : List Open) (g :
       ap (λ (x : Transaction). any (isOpenAs (x .id .0)) os′) (ends-elsewhere p tb log q (still-open q b .0)) ∙ keeps-open q (still-open q b .0) (still-open q b .1),
     );
     unlike = λ q k a b e. g .unlike q k (ap isLive (sym (same q a)) ∙ a) (ap isLive (sym (same k b)) ∙ b) (ap (λ (x : Transaction). x .id .0) (sym (same q a)) ∙ e ∙ ap (λ (x : Transaction). x .id .0) (same k b));
-    sizes = λ q a. ap (λ (x : Transaction). length (x .id .0)) (same q a) ∙ g .sizes q (ap isLive (sym (same q a)) ∙ a);
+    sized = ends-sized p tb log (g .sized);
     space = end-space;
   }
     where
       same : (q : ℕ) → isLive (transactionAt q tb′) ≡ true → transactionAt q tb′ ≡ transactionAt q tb
-      same q l = ends-elsewhere p tb log q (live-before q l)
+      same = ends-live p tb log
 
 pub each-fits : (ps : List ℕ) (tb : Table) (log : List ℕ) (n : ℕ) (os : List Open) → Forgettable tb n os
     → (allFitting os (forgets ps tb log) ≡ true) × (endEach ps tb log .table .used + forgetSize * length (openAfter os (forgets ps tb log)) ≤ n)

@@ -31,7 +31,7 @@ use Rattle.rules.specs.Events.{entryOf}
 use Rattle.rules.proofs.Identifiers.{same-refl, same-equal, equal-same, zero-equal}
 use Rattle.rules.proofs.Frames.{of-held, named-is, named-found, named-place, not-zero, Stands}
 use Rattle.safety.specs.World.{ownerOf}
-use Rattle.safety.proofs.Alone.{Story, none, open-with, closed, bad, View, out, early, voting, single, committing, aborting, Entered}
+use Rattle.safety.proofs.Alone.{Story, none, open-with, closed, bad, View, out, early, voting, single, committing, aborting, NoDurable, Entered}
 use Rattle.safety.proofs.Top.{Agrees}
 use Rattle.safety.proofs.Story.{mine, Tells}
 use Rattle.safety.proofs.View.{viewOf, looks-committing, state-none}
@@ -74,9 +74,17 @@ pub mine-none : (u : Id) (os : List Open) → mine u os ≡ [] → any (isOpenAs
 unfolding mine
 mine-none u os e = is-false (any (isOpenAs u) os) (λ q. let s : Some (λ o. isOpenAs u o ≡ true) os = any-some (isOpenAs u) os q in List·Memᴰ·not-nil (rw e at (in-filter (isOpenAs u) os (s .there) (s .holds))))
 
-pub mine-some : (u : Id) (os : List Open) (o : Open) → mine u os ≡ o ∷ [] → any (isOpenAs u) os ≡ true
+mine-some : (u : Id) (os : List Open) (o : Open) → mine u os ≡ o ∷ [] → any (isOpenAs u) os ≡ true
 unfolding mine
 mine-some u os o e = let w : (o ∈ os) × (isOpenAs u o ≡ true) = of-filter (isOpenAs u) os (rw e (List·Memᴰ·head refl)) in some-any (isOpenAs u) os (record { it = o; there = w .0; holds = w .1 })
+
+-- a transaction in Committing with a durable enlistment is open in the log
+pub told-open : (tb : Table) (log : List ℕ) (os : List Open) → Ready tb log os → (t : Id) (es : List Enlistment) → viewOf t tb ≡ committing es → (NoDurable es → ⊥) → any (isOpenAs t) os ≡ true
+told-open tb log os r t es shows durable = go (r .storied t) (rw shows at (r .agrees t)) (r .tells t)
+  where
+    go : (s : Story) → Agrees (committing es) s → Tells t s os → any (isOpenAs t) os ≡ true
+    go s (inl (rs, q, y, n)) h = let w : Tells t (open-with rs) os = rw q at h in mine-some t os (w .0) (w .1)
+    go s (inr (q, y)) h = absurd (durable y)
 
 -- a story that is open is that of a transaction in Committing
 pub record Shown (rs : List Entry) (v : View) : Type 0 where

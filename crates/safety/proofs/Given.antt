@@ -18,12 +18,16 @@ use Rattle.rules.specs.EnlistmentState as enlistment
 use Rattle.rules.specs.Sizes.{identifierSize}
 use Rattle.rules.specs.Identifiers.{Id}
 use Rattle.rules.specs.Table.{noTransaction, noEnlistment, isLive, isNamed, transactionAt, stateAt, idAt, isHeld, held, isNumbered, numbered}
-use Rattle.rules.specs.Sound.{Sound, HoldsWell, In, PhaseZero, Live, Held, active, phase-zero, phase-one, single-phase, committing, aborting}
+use Rattle.rules.specs.Sound.{Sound, HoldsWell, In, PhaseZero, Held, active, phase-zero, phase-one, single-phase, committing, aborting}
 use Rattle.rules.specs.Refusals.{isNumberHeld}
 use Rattle.rules.proofs.Frames.{of-held, in-held, named-is, is-named, named-place, by-place, not-zero, Stands}
 use Rattle.lists.proofs.Places.{at-member}
 use Rattle.lists.proofs.Apart.{apart-one, one-place}
 use Rattle.safety.specs.World.{ownerOf}
+
+-- the identifiers of the live ones can be written
+abbrev pub Sized : Table → Type 0
+Sized tb = (p : ℕ) → isLive (transactionAt p tb) ≡ true → length (idAt p tb) ≡ identifierSize
 
 -- ── names and numbers ───────────────────────────────────────────────────────────────────────────────────────────
 
@@ -35,7 +39,7 @@ module _ (tb : Table) (s : Sound tb) where
   pub owner-stands : {x : Enlistment} → x ∈ tb .enlistments → Held x → Stands (idAt (x .holder) tb) (x .holder) tb
   owner-stands {x} m h = stands-sound (idAt (x .holder) tb) (x .holder) (is-named (transactionAt (x .holder) tb) (false-not (ne-eqb (stateAt (x .holder) tb) 0 (s .holders-live x m h))))
 
-  pub id-size : (p : ℕ) → isLive (transactionAt p tb) ≡ true → length (idAt p tb) ≡ identifierSize
+  pub id-size : Sized tb
   id-size p l = by-place p (tb .transactions)
       (λ h. s .transaction-identifiers (transactionAt p tb) (at-member noTransaction (tb .transactions) h) (eqb-false (stateAt p tb) 0 (not-true (eqb (stateAt p tb) 0) l)) .0)
       (λ z. no-clash (isLive (transactionAt p tb)) l (ap isLive z))
@@ -49,16 +53,23 @@ module _ (tb : Table) (s : Sound tb) where
   in-held-ones : {x : Enlistment} → x ∈ tb .enlistments → Held x → x ∈ filter isHeld (tb .enlistments)
   in-held-ones {x} m h = in-filter isHeld (tb .enlistments) m (false-not (ne-eqb (x .holder) 0 h))
 
-  -- numbers differ, so that the enlistment with a number is the one
-  pub numbered-is : (n : ℕ) → (n ≡ 0 → ⊥) → {x : Enlistment} → x ∈ tb .enlistments → x .number ≡ n → numbered n tb ≡ x
+  -- a number that is held is that of an enlistment of the table
+  numbered-found : (n : ℕ) → (n ≡ 0 → ⊥) → isNumberHeld n tb ≡ true → (numbered n tb ∈ tb .enlistments) × (numbered n tb .number ≡ n) × Held (numbered n tb)
   unfolding numbered
-  numbered-is n nonzero {x} m e = apart-one (λ a b r. sym r) (s .numbers-differ) (in-held-ones (found .0) (numbered-held (found .0) (λ z. nonzero (sym is-n ∙ z)))) (in-held-ones m (numbered-held m (λ z. nonzero (sym e ∙ z)))) (is-n ∙ sym e)
+  numbered-found n nonzero h = (found .0, is-n, numbered-held (found .0) (λ z. nonzero (sym is-n ∙ z)))
     where
       found : (numbered n tb ∈ tb .enlistments) × (isNumbered n (numbered n tb) ≡ true)
-      found = first-passes noEnlistment (isNumbered n) (tb .enlistments) (some-any (isNumbered n) (tb .enlistments) (record { it = x; there = m; holds = eq-eqb (x .number) n e }))
+      found = first-passes noEnlistment (isNumbered n) (tb .enlistments) h
 
       is-n : numbered n tb .number ≡ n
       is-n = eqb-true (numbered n tb .number) n (found .1)
+
+  -- numbers differ, so that the enlistment with a number is the one
+  pub numbered-is : (n : ℕ) → (n ≡ 0 → ⊥) → {x : Enlistment} → x ∈ tb .enlistments → x .number ≡ n → numbered n tb ≡ x
+  numbered-is n nonzero {x} m e = apart-one (λ a b r. sym r) (s .numbers-differ) (in-held-ones (found .0) (found .2)) (in-held-ones m (numbered-held m (λ z. nonzero (sym e ∙ z)))) (found .1 ∙ sym e)
+    where
+      found : (numbered n tb ∈ tb .enlistments) × (numbered n tb .number ≡ n) × Held (numbered n tb)
+      found = numbered-found n nonzero (some-any (isNumbered n) (tb .enlistments) (record { it = x; there = m; holds = eq-eqb (x .number) n e }))
 
   -- what a live transaction holds is its own
   pub owner-held : (t : Id) (p : ℕ) → Stands t p tb → {x : Enlistment} → x ∈ held p tb → (x .number ≡ 0 → ⊥) × (ownerOf (x .number) tb ≡ t)
@@ -99,29 +110,16 @@ pub record Named (tb : Table) (n : ℕ) : Type 0 where
   pub only : {x : Enlistment} → x ∈ held (numbered n tb .holder) tb → x .number ≡ n → numbered n tb ≡ x
 
 pub named-sound : (tb : Table) → Sound tb → (n : ℕ) → (n ≡ 0 → ⊥) → isNumberHeld n tb ≡ true → Named tb n
-unfolding numbered
 named-sound tb s n nonzero h = record {
-  number = is-n;
-  stands = at;
-  line = row (s .states (numbered n tb .holder) live) mine;
+  number = found .1;
+  stands = owner-stands tb s (found .0) (found .2);
+  line = row (s .states (numbered n tb .holder) (s .holders-live (numbered n tb) (found .0) (found .2))) mine;
   mine = mine;
   only = λ m e. numbered-is tb s n nonzero (of-held (numbered n tb .holder) tb m .0) e;
 }
   where
-    found : (numbered n tb ∈ tb .enlistments) × (isNumbered n (numbered n tb) ≡ true)
-    found = first-passes noEnlistment (isNumbered n) (tb .enlistments) h
-
-    is-n : numbered n tb .number ≡ n
-    is-n = eqb-true (numbered n tb .number) n (found .1)
-
-    is-held : Held (numbered n tb)
-    is-held = numbered-held tb s (found .0) (λ z. nonzero (sym is-n ∙ z))
+    found : (numbered n tb ∈ tb .enlistments) × (numbered n tb .number ≡ n) × Held (numbered n tb)
+    found = numbered-found tb s n nonzero h
 
     mine : numbered n tb ∈ held (numbered n tb .holder) tb
     mine = in-held (numbered n tb .holder) tb (found .0) refl
-
-    at : Stands (ownerOf n tb) (numbered n tb .holder) tb
-    at = owner-stands tb s (found .0) is-held
-
-    live : Live (transactionAt (numbered n tb .holder) tb)
-    live = s .holders-live (numbered n tb) (found .0) is-held

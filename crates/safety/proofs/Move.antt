@@ -6,7 +6,7 @@ use mathlib.Core.Path.{_≡_, refl, sym, _∙_, ap}
 use mathlib.Core.Logic.{_⊎_, inl, inr, ⊎-elim}
 use mathlib.Core.Bool.{Bool, true, false}
 use mathlib.Core.List.{List, _∷_, _++_, List·Memᴰ, List·Memᴰ·head, List·Memᴰ·tail, List·Memᴰ·cases-cons, List·Memᴰ·append-cases, Memᴰ·append-left, Memᴰ·append-right, Memᴰ·of-map}
-use Rattle.lists.specs.Members.{_∈_, Some}
+use Rattle.lists.specs.Members.{_∈_, Each, Some}
 use Rattle.lists.proofs.Tests.{no-clash}
 use Rattle.rules.specs.declared.Enlistment.{Enlistment}
 use Rattle.rules.specs.declared.Vote.{Vote}
@@ -19,8 +19,8 @@ use Rattle.rules.specs.Log.{Entry}
 use Rattle.safety.specs.World.{Note, Message, Issued, issue}
 use Rattle.safety.specs.Host.{Prepares, Closes, MayAsk, now, still}
 use Rattle.rules.specs.Signals.{Committed, Aborted}
-use Rattle.safety.specs.Demand3.{About, Votes, Yes, VotedYes, AllVotedYes}
-use Rattle.safety.proofs.Alone.{Story, none, open-with, closed, bad, Below, below-refl, below-trans, Logged, none-not-open, closed-not-open, View, out, early, voting, single, committing, aborting, Hopes, Waits, Unasked, Preparing, NoDurable, managersOf, Entered, Begun, NoAsk, Good, AsksIn, New, Any, Base, Undecided, Shape, ShapeVoting, ShapeCommitting}
+use Rattle.safety.specs.Demand3.{About, Votes, Yes, VotedYes, AllVotedYes, OnlyOne}
+use Rattle.safety.proofs.Alone.{Story, none, open-with, closed, bad, Below, below-refl, below-trans, Logged, none-not-open, closed-not-open, View, out, early, voting, single, committing, aborting, Hopes, Waits, Is, Unasked, Preparing, NoDurable, managersOf, Entered, Begun, NoAsk, Good, AsksIn, New, Any, Base, Undecided, Shape, ShapeVoting, ShapeCommitting}
 
 -- the note tells neither of an enlistment nor of a vote
 abbrev pub isCalm : Note → Bool
@@ -51,9 +51,13 @@ module _ (t : Id) where
     pub no-committed : New t Committed ms → ⊥
     pub no-aborted : New t Aborted ms → ⊥
 
-  -- the note is a yes vote with number n
-  abbrev pub VoteOf : ℕ → Note → Type 0
-  VoteOf n x = (r : Id) × (k : ℕ) × (v : Vote) × (x ≡ Note.voted t n r k v) × Yes v
+  -- the note is a yes vote of this enlistment
+  abbrev pub VoteOf : ℕ → Id → ℕ → Note → Type 0
+  VoteOf n r k x = (v : Vote) × (x ≡ Note.voted t n r k v) × Yes v
+
+  -- an enlistment that was held, as the same, or that x tells of
+  abbrev pub Joins : Note → List Enlistment → Enlistment → Type 0
+  Joins x es e = Some (Is (e .number) (e .rm .0) (e .kind)) es ⊎ (x ≡ Note.enlisted t (e .number) (e .rm .0) (e .kind))
 
   pub data Doomed : View → Type 0 where
     from-early : {es : List Enlistment} → Doomed (early es)
@@ -68,42 +72,44 @@ module _ (t : Id) where
   pub data Move (h : List Note) (x : Note) (ms : List Message) (log log′ : Story) : View → View → Type 0 where
     -- another transaction's step, a refused one, an answer not-yet
     stay : {v : View} → log′ ≡ log → Calm x → Quiet ms → Move h x ms log log′ v v
-    begin : {es : List Enlistment} → log′ ≡ log → (Begun t h → ⊥) → x ≡ Note.begun t → Quiet ms → Move h x ms log log′ out (early es)
+    begin : {es : List Enlistment} → log′ ≡ log → (Begun t h → ⊥) → x ≡ Note.begun t → Quiet ms → Each (λ _. ⊥) es → Move h x ms log log′ out (early es)
     -- enlist, commit with P held, zero done
     gather : {es es′ : List Enlistment} → log′ ≡ log → ((r : Id) → Prepares t r x → ⊥) → Quiet ms
-        → ((n : ℕ) → Some (Unasked n) es → Some (Unasked n) es′)
-        → ((n : ℕ) (r : Id) (k : ℕ) → x ≡ Note.enlisted t n r k → Votes k → Some (Unasked n) es′)
+        → ((n : ℕ) (r : Id) (k : ℕ) → Some (Unasked n r k) es → Some (Unasked n r k) es′)
+        → ((n : ℕ) (r : Id) (k : ℕ) → x ≡ Note.enlisted t n r k → Votes k → Some (Unasked n r k) es′)
+        → Each (Joins x es) es′
         → Move h x ms log log′ (early es) (early es′)
     prepare : {es es′ : List Enlistment} → log′ ≡ log → Calm x → Quiet ms
-        → ((n : ℕ) → Some (Unasked n) es → Some (Preparing n) es′)
+        → ((n : ℕ) (r : Id) (k : ℕ) → Some (Unasked n r k) es → Some (Preparing n r k) es′)
         → Move h x ms log log′ (early es) (voting es′)
-    ask-one : {es es′ : List Enlistment} {n₀ : ℕ} → log′ ≡ log → Calm x → Quiet ms
-        → ((n : ℕ) → Some (Unasked n) es → n ≡ n₀)
-        → ((e : Enlistment) → e ∈ es′ → e .number ≡ n₀)
+    ask-one : {es es′ : List Enlistment} {n₀ : ℕ} {r₀ : Id} {k₀ : ℕ} → log′ ≡ log → Calm x → Quiet ms
+        → Some (Unasked n₀ r₀ k₀) es
+        → ((n : ℕ) (r : Id) (k : ℕ) → Some (Unasked n r k) es → (n ≡ n₀) × (r ≡ r₀) × (k ≡ k₀))
+        → Each (λ e. e .number ≡ n₀) es′
         → record { about = t; name = name.Single; number = n₀ } ∈ ms
         → Move h x ms log log′ (early es) (single es′)
     commit-empty : {es : List Enlistment} → log′ ≡ log → Calm x → (New t Aborted ms → ⊥)
-        → ((n : ℕ) → Some (Unasked n) es → ⊥)
+        → ((n : ℕ) (r : Id) (k : ℕ) → Some (Unasked n r k) es → ⊥)
         → Move h x ms log log′ (early es) out
     -- a vote that is not the last, a lost prepared D
     vote-on : {es es′ : List Enlistment} → log′ ≡ log → Quiet ms
         → NotEnlisted x
-        → ((n : ℕ) → Some (Preparing n) es → VoteOf n x ⊎ Some (Preparing n) es′)
+        → ((n : ℕ) (r : Id) (k : ℕ) → Some (Preparing n r k) es → VoteOf n r k x ⊎ Some (Preparing n r k) es′)
         → ((r : Id) → Some (Hopes r) es → Some (Hopes r) es′)
         → ((r : Id) → Prepares t r x → Some (Hopes r) es′)
         → Move h x ms log log′ (voting es) (voting es′)
     decide-logged : {es es′ : List Enlistment} {rs : List Entry} → log′ ≡ open-with rs → NotEnlisted x → (New t Aborted ms → ⊥)
-        → ((n : ℕ) → Some (Preparing n) es → VoteOf n x)
+        → ((n : ℕ) (r : Id) (k : ℕ) → Some (Preparing n r k) es → VoteOf n r k x)
         → ((r : Id) → Some (Hopes r) es ⊎ Prepares t r x → Some (Waits r) es′ × (r ∈ managersOf rs))
         → Some Durable es′ → Entered rs es′
         → Move h x ms log log′ (voting es) (committing es′)
     decide-unlogged : {es es′ : List Enlistment} → log′ ≡ log → NotEnlisted x → (New t Aborted ms → ⊥)
-        → ((n : ℕ) → Some (Preparing n) es → VoteOf n x)
+        → ((n : ℕ) (r : Id) (k : ℕ) → Some (Preparing n r k) es → VoteOf n r k x)
         → ((r : Id) → Some (Hopes r) es ⊎ Prepares t r x → ⊥)
         → NoDurable es′
         → Move h x ms log log′ (voting es) (committing es′)
     decide-empty : {es : List Enlistment} → log′ ≡ log → NotEnlisted x → (New t Aborted ms → ⊥)
-        → ((n : ℕ) → Some (Preparing n) es → VoteOf n x)
+        → ((n : ℕ) (r : Id) (k : ℕ) → Some (Preparing n r k) es → VoteOf n r k x)
         → ((r : Id) → Some (Hopes r) es ⊎ Prepares t r x → ⊥)
         → Move h x ms log log′ (voting es) out
     -- abort, a single-phase reply other than committed, and all that follows an abort
@@ -143,21 +149,24 @@ module _ (t : Id) where
   no-ask-calm : {x : Note} {h : List Note} → ((q : Id) → Prepares t q x → ⊥) → NoAsk t h → NoAsk t (x ∷ h)
   no-ask-calm c no-ask r m = no-ask r (ask-calm c m)
 
-  voted-more : {n : ℕ} {h : List Note} (x : Note) → VotedYes t n h → VotedYes t n (x ∷ h)
-  voted-more x v = record { manager = v .manager; kind = v .kind; vote = v .vote; accepted = List·Memᴰ·tail (v .accepted); yes = v .yes }
+  voted-more : {n : ℕ} {r : Id} {k : ℕ} {h : List Note} (x : Note) → VotedYes t n r k h → VotedYes t n r k (x ∷ h)
+  voted-more x v = record { vote = v .vote; accepted = List·Memᴰ·tail (v .accepted); yes = v .yes }
 
-  vote-of : {n : ℕ} {x : Note} (h : List Note) → VoteOf n x → VotedYes t n (x ∷ h)
-  vote-of h (r, k, v, e, y) = record { manager = r; kind = k; vote = v; accepted = List·Memᴰ·head (sym e); yes = y }
+  vote-of : {n : ℕ} {r : Id} {k : ℕ} {x : Note} (h : List Note) → VoteOf n r k x → VotedYes t n r k (x ∷ h)
+  vote-of h (v, e, y) = record { vote = v; accepted = List·Memᴰ·head (sym e); yes = y }
 
   -- an enlistment noted before, if x notes none
   old : {n : ℕ} {r : Id} {k : ℕ} {x : Note} {h : List Note} → NotEnlisted x → Note.enlisted t n r k ∈ x ∷ h → Note.enlisted t n r k ∈ h
   old {n} {r} {k} c m = ⊎-elim (λ e. absurd (c n r k (sym e))) (λ i. i) (List·Memᴰ·cases-cons m)
 
+  one-more : {n : ℕ} {x : Note} {h : List Note} → NotEnlisted x → OnlyOne t n h → OnlyOne t n (x ∷ h)
+  one-more c o = record { manager = o .manager; kind = o .kind; enlisted = List·Memᴰ·tail (o .enlisted); votes = o .votes; only = λ n r k i m. o .only n r k (old c i) m }
+
   good-more : {x : Note} {h : List Note} {issued : List Message} (ms : List Message) → NotEnlisted x → Good t h issued → Good t (x ∷ h) (ms ++ issued)
   good-more {x} ms c (inl a) = inl (λ n r k i m. voted-more x (a n r k (old c i) m))
   good-more {x} ms c (inr o) = inr (record {
     number = o .number;
-    only = λ n r k i m. o .only n r k (old c i) m;
+    one = one-more c (o .one);
     asked = Memᴰ·append-right ms (o .asked);
     answered = List·Memᴰ·tail (o .answered);
   })
@@ -328,8 +337,8 @@ module _ (t : Id) where
     asks-none e = rw e tt
 
     -- every enlistment has voted yes, if x is the last vote
-    last-vote : {es : List Enlistment} → ShapeVoting t es log h waiting sent → NotEnlisted x → ((n : ℕ) → Some (Preparing n) es → VoteOf n x) → AllVotedYes t (x ∷ h)
-    last-vote s c f n r k i m = ⊎-elim (voted-more x) (λ p. vote-of h (f n p)) (s .held n r k (old c i) m)
+    last-vote : {es : List Enlistment} → ShapeVoting t es log h waiting sent → NotEnlisted x → ((n : ℕ) (r : Id) (k : ℕ) → Some (Preparing n r k) es → VoteOf n r k x) → AllVotedYes t (x ∷ h)
+    last-vote s c f n r k i m = ⊎-elim (voted-more x) (λ p. vote-of h (f n r k p)) (s .held n r k (old c i) m)
 
     -- who may ask now has prepared with x, or before
     hoping : {es : List Enlistment} → ShapeVoting t es log h waiting sent → (r : Id) → MayAsk t r (x ∷ h) → Some (Hopes r) es ⊎ Prepares t r x
@@ -367,13 +376,13 @@ module _ (t : Id) where
 
     pub keep-base : {v v′ : View} → Old → Shape t v log h waiting sent issued → Move h x ms log log′ v v′ → Next
     keep-base b s (stay e c q) = make-stay b c q e
-    keep-base b s (begin e not-begun noted q) = make-stay b (calm-note x (ap isCalm noted)) q e
-    keep-base b s (gather e not-prepared q f g) = make-undecided b (s .undecided) e q
+    keep-base b s (begin e not-begun noted q nobody) = make-stay b (calm-note x (ap isCalm noted)) q e
+    keep-base b s (gather e not-prepared q f g j) = make-undecided b (s .undecided) e q
     keep-base b s (prepare e c q f) = make-undecided b (s .undecided) e q
-    keep-base b s (ask-one e c q f g m) = make-undecided b (s .undecided) e q
+    keep-base b s (ask-one e c q i f g m) = make-undecided b (s .undecided) e q
     keep-base b s (commit-empty e c no-abort f) =
         make-first b (s .undecided) (rw e (b .fine)) (below-same e) (asks-none (e ∙ s .undecided .log-none))
-        (inl (λ n r k i m. absurd (f n (s .held n r k (old (c .not-enlisted) i) m)))) no-abort (inl (no-ask-calm (c .not-prepared) (s .no-ask)))
+        (inl (λ n r k i m. absurd (f n r k (s .held n r k (old (c .not-enlisted) i) m)))) no-abort (inl (no-ask-calm (c .not-prepared) (s .no-ask)))
     keep-base b s (vote-on e q not-enlisted f g p) = make-undecided b (s .undecided) e q
     keep-base b s (decide-logged e not-enlisted no-abort f g d n) =
         make-first b (s .undecided) (rw e open-fine) (rw (s .undecided .log-none) tt) (rw e (λ r m. g r (hoping s r m) .1))
@@ -387,7 +396,7 @@ module _ (t : Id) where
     keep-base b s (abort e d g no-commit) = let z : Doom = doom d s in make-none b (z .begun) (e ∙ z .log-none) (z .log-none) (no-committed′ no-commit (z .no-committed)) (z .no-committed)
     keep-base b s (replied {n₀ = n₀} e noted w no-abort) =
         make-first b (s .undecided) (rw e (b .fine)) (below-same e) (asks-none (e ∙ s .undecided .log-none))
-        (inr (record { number = n₀; only = λ n r k i m. s .only n r k (old (calm-note x (ap isCalm noted) .not-enlisted) i) m ∙ is-it; asked = rw (← is-it) (Memᴰ·append-right ms (s .asked)); answered = List·Memᴰ·head (sym noted) }))
+        (inr (record { number = s .number; one = one-more (calm-note x (ap isCalm noted) .not-enlisted) (s .one); asked = Memᴰ·append-right ms (s .asked); answered = rw is-it (List·Memᴰ·head (sym noted)) }))
         no-abort (inl (no-ask-calm (calm-note x (ap isCalm noted) .not-prepared) (s .no-ask)))
       where
         is-it : s .number ≡ n₀
@@ -444,6 +453,7 @@ module _ (t : Id) where
       undecided = undecided-next (s .undecided) e q;
       no-ask = no-ask-calm (c .not-prepared) (s .no-ask);
       held = λ n r k i m. s .held n r k (old (c .not-enlisted) i) m;
+      noted = λ y i. List·Memᴰ·tail (s .noted y i);
     }
     stay-shape (voting es) e c q s = record {
       undecided = undecided-next (s .undecided) e q;
@@ -455,7 +465,7 @@ module _ (t : Id) where
       no-ask = no-ask-calm (c .not-prepared) (s .no-ask);
       number = s .number;
       numbers = s .numbers;
-      only = λ n r k i m. s .only n r k (old (c .not-enlisted) i) m;
+      one = one-more (c .not-enlisted) (s .one);
       asked = Memᴰ·append-right ms (s .asked);
     }
     stay-shape (committing es) e c q s = told-shape s e c (q .no-aborted) (λ r w. inl w) (λ w. w) (λ w. w) (λ n w. w)
@@ -463,7 +473,7 @@ module _ (t : Id) where
 
     pub keep-shape : {v v′ : View} → Old → Shape t v log h waiting sent issued → Move h x ms log log′ v v′ → Shape′ v′
     keep-shape b s (stay {v} e c q) = stay-shape v e c q s
-    keep-shape b s (begin e not-begun noted q) = record {
+    keep-shape b s (begin e not-begun noted q nobody) = record {
       undecided = record {
         log-none = e ∙ fresh log (b .begun-log);
         begun = List·Memᴰ·head (sym noted);
@@ -472,6 +482,7 @@ module _ (t : Id) where
       };
       no-ask = λ r m. not-begun (b .begun-ask r (ask-calm (calm-note x (ap isCalm noted) .not-prepared) m));
       held = λ n r k i m. absurd (not-begun (b .begun-enlisted n r k (old (calm-note x (ap isCalm noted) .not-enlisted) i)));
+      noted = λ y i. absurd (nobody y i);
     }
       where
         fresh : (s : Story) → (Logged s → Begun t h) → s ≡ none
@@ -479,28 +490,35 @@ module _ (t : Id) where
         fresh (open-with rs) f = absurd (not-begun (f tt))
         fresh closed f = absurd (not-begun (f tt))
         fresh bad f = absurd (not-begun (f tt))
-    keep-shape b s (gather e not-prepared q f g) = record {
+    keep-shape b s (gather e not-prepared q f g j) = record {
       undecided = undecided-next (s .undecided) e q;
       no-ask = no-ask-calm not-prepared (s .no-ask);
-      held = λ n r k i m. ⊎-elim (λ p. g n r k (sym p) m) (λ o. f n (s .held n r k o m)) (List·Memᴰ·cases-cons i);
+      held = λ n r k i m. ⊎-elim (λ p. g n r k (sym p) m) (λ o. f n r k (s .held n r k o m)) (List·Memᴰ·cases-cons i);
+      noted = λ y i. ⊎-elim (λ w. List·Memᴰ·tail (rw (w .holds .0, w .holds .1, w .holds .2) at (s .noted (w .it) (w .there)))) (λ p. List·Memᴰ·head (sym p)) (j y i);
     }
     keep-shape b s (prepare e c q f) = record {
       undecided = undecided-next (s .undecided) e q;
-      held = λ n r k i m. inr (f n (s .held n r k (old (c .not-enlisted) i) m));
+      held = λ n r k i m. inr (f n r k (s .held n r k (old (c .not-enlisted) i) m));
       hopes = λ r m. absurd (s .no-ask r (ask-calm (c .not-prepared) m));
     }
-    keep-shape b s (ask-one {n₀ = n₀} e c q f g m) = record {
+    keep-shape b s (ask-one {n₀ = n₀} {r₀ = r₀} {k₀ = k₀} e c q i f g m) = record {
       undecided = undecided-next (s .undecided) e q;
       no-ask = no-ask-calm (c .not-prepared) (s .no-ask);
       number = n₀;
       numbers = g;
-      only = λ n r k i votes. f n (s .held n r k (old (c .not-enlisted) i) votes);
+      one = record {
+        manager = r₀;
+        kind = k₀;
+        enlisted = List·Memᴰ·tail (rw (i .holds .0 .0, i .holds .0 .1, i .holds .0 .2) at (s .noted (i .it) (i .there)));
+        votes = rw (i .holds .0 .2) at (i .holds .1);
+        only = λ n r k o votes. f n r k (s .held n r k (old (c .not-enlisted) o) votes);
+      };
       asked = Memᴰ·append-left issued m;
     }
     keep-shape b s (commit-empty e c no-abort f) = out-shape (none-not-open (e ∙ s .undecided .log-none)) (no-ask-calm (c .not-prepared) (s .no-ask))
     keep-shape b s (vote-on e q not-enlisted f g p) = record {
       undecided = undecided-next (s .undecided) e q;
-      held = λ n r k i m. ⊎-elim (λ v. inl (voted-more x v)) (λ w. ⊎-elim (λ v. inl (vote-of h v)) inr (f n w)) (s .held n r k (old not-enlisted i) m);
+      held = λ n r k i m. ⊎-elim (λ v. inl (voted-more x v)) (λ w. ⊎-elim (λ v. inl (vote-of h v)) inr (f n r k w)) (s .held n r k (old not-enlisted i) m);
       hopes = λ r m. ⊎-elim (g r) (p r) (hoping s r m);
     }
     keep-shape b s (decide-logged {rs = rs} e not-enlisted no-abort f g d n) = record {

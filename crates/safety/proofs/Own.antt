@@ -39,13 +39,13 @@ use Rattle.rules.proofs.Ordered.{by-number-ascends}
 use Rattle.safety.specs.World.{Note, noteOf, messageOf, subjectOf}
 use Rattle.safety.specs.Host.{Prepares, Closes, careful, Makes}
 use Rattle.safety.proofs.Alone as alone
-use Rattle.safety.proofs.Alone.{Story, closed, early, voting, aborting, Hopes, Waits, Unasked, Preparing, NoDurable, managersOf, Entered, New}
+use Rattle.safety.proofs.Alone.{Story, closed, early, voting, aborting, Hopes, Waits, Is, Unasked, Preparing, NoDurable, managersOf, Entered, New}
 use Rattle.safety.proofs.Move.{Calm, NotEnlisted, VoteOf, Doomed, from-voting, from-aborting, to-out, to-aborting, Move, prepare, ask-one, commit-empty, decide-logged, decide-unlogged, decide-empty, abort, told-on, end-logged, end-unlogged}
 use Rattle.safety.proofs.Top.{Agrees}
 use Rattle.safety.proofs.Story.{next, story, onForget, mine, Tells}
 use Rattle.safety.proofs.View.{viewOf, look, view-stands, view-goes, goes-other, view-ends, ends-other, view-more, stands-held}
 use Rattle.safety.proofs.Open.{FitCommit, fits-commit}
-use Rattle.safety.proofs.Fitting.{Ready, Judged, judged-nothing, mine-none, mine-some, open-shown, shown-open, open-count, commit-fit, live-nonzero, forget-fit, one-forgotten}
+use Rattle.safety.proofs.Fitting.{Ready, Judged, judged-nothing, mine-none, told-open, open-shown, shown-open, open-count, commit-fit, live-nonzero, forget-fit, one-forgotten}
 use Rattle.safety.proofs.Messages.{notCommitted, notAborted, Only, only-nothing, only-one, only-each, only-both, Addressed, Owned, owned-about, addressed-nothing, addressed-one, addressed-each, addressed-both, none-committed, none-aborted, quiet}
 
 pub by-cases : {A : Type 0} (P : A → Type 0) (b : Bool) (x y : A) → (b ≡ true → P x) → (b ≡ false → P y) → P (cond b x y)
@@ -172,7 +172,7 @@ module _ (tb : Table) (e : Event) (log : List ℕ) (t : Id) (p : ℕ) (tb₁ : T
   -- what the vote has done
   pub record Voted (hs : List Enlistment) (x : Note) : Type 0 where
     pub calm : NotEnlisted t x
-    pub preparing : (n : ℕ) → Some (Preparing n) hs → VoteOf t n x ⊎ Some (Preparing n) hs₁
+    pub preparing : (n : ℕ) (r : Id) (k : ℕ) → Some (Preparing n r k) hs → VoteOf t n r k x ⊎ Some (Preparing n r k) hs₁
     pub hopes : (r : Id) → Some (Hopes r) hs → Some (Hopes r) hs₁
     pub prepares : (r : Id) → Prepares t r x → Some (Hopes r) hs₁
 
@@ -231,8 +231,8 @@ module _ (tb : Table) (e : Event) (log : List ℕ) (t : Id) (p : ℕ) (tb₁ : T
   own-id = named-is t (transactionAt p tb₁) (z .stands .here) .1
 
   module _ (hs : List Enlistment) (shown : viewOf t tb ≡ voting hs) (id-size : length t ≡ identifierSize) (v : Voted hs (noteOf tb e)) (last : any (isIn enlistment.preparing) hs₁ ≡ false) where
-    all-voted : (n : ℕ) → Some (Preparing n) hs → VoteOf t n (noteOf tb e)
-    all-voted n h = by-either (λ y. y) (λ w. no-clash (isIn enlistment.preparing (w .it)) (eq-eqb (w .it .state) enlistment.preparing (w .holds .1)) (none-each (isIn enlistment.preparing) hs₁ last (w .it) (w .there))) (v .preparing n h)
+    all-voted : (n : ℕ) (r : Id) (k : ℕ) → Some (Preparing n r k) hs → VoteOf t n r k (noteOf tb e)
+    all-voted n r k h = by-either (λ y. y) (λ w. no-clash (isIn enlistment.preparing (w .it)) (eq-eqb (w .it .state) enlistment.preparing (w .holds .1)) (none-each (isIn enlistment.preparing) hs₁ last (w .it) (w .there))) (v .preparing n r k h)
 
     hoping : (r : Id) → Some (Hopes r) hs ⊎ Prepares t r (noteOf tb e) → Some (Hopes r) hs₁
     hoping r = by-either (v .hopes r) (v .prepares r)
@@ -384,11 +384,7 @@ module _ (tb : Table) (e : Event) (log : List ℕ) (t : Id) (p : ℕ) (tb₁ : T
     forget-judged {used} d e = record { judged = λ os r. (rw (forget-fit t os (live-nonzero tb (r .sound) t p (z .before)) (opened os r)) refl, omega (arith, e, r .room, one-forgotten t os (opened os r))) }
       where
         opened : (os : List Open) → Ready tb log os → any (isOpenAs t) os ≡ true
-        opened os r = go (r .storied t) (rw shown at (r .agrees t)) (r .tells t)
-          where
-            go : (s : Story) → Agrees (alone.committing hs) s → Tells t s os → any (isOpenAs t) os ≡ true
-            go s (inl (rs, q, y, n)) h = let k : Tells t (alone.open-with rs) os = rw q at h in mine-some t os (k .0) (k .1)
-            go s (inr (q, y)) h = absurd (w .no-durable y (some-durable-of hs₁ d .it) (some-durable-of hs₁ d .there) (some-durable-of hs₁ d .holds))
+        opened os r = told-open tb log os r t hs shown (λ y. w .no-durable y (some-durable-of hs₁ d .it) (some-durable-of hs₁ d .there) (some-durable-of hs₁ d .holds))
 
     end-durable : any isDurable hs₁ ≡ true → all isDone hs₁ ≡ true → tb₁ .used + forgetSize ≤ length log → Here (append (Record.forget (idAt p tb₁)) (emptied p tb₁) log)
     unfolding append useMore story next allBytes recordBytes
@@ -430,11 +426,12 @@ module _ (tb : Table) (e : Event) (log : List ℕ) (t : Id) (p : ℕ) (tb₁ : T
   keeps-state : (s : ℕ) → Keeps (inState s)
   keeps-state s x = inl refl
 
-  module _ (hs : List Enlistment) (shown : viewOf t tb ≡ early hs) (calm : Calm t (noteOf tb e)) (unasked : (m : ℕ) → Some (Unasked m) hs → Some (Unasked m) hs₁) where
+  module _ (hs : List Enlistment) (shown : viewOf t tb ≡ early hs) (calm : Calm t (noteOf tb e)) (unasked : (n : ℕ) (r : Id) (k : ℕ) → Some (Unasked n r k) hs → Some (Unasked n r k) hs₁)
+      (joined : Each (λ x. Some (Unasked (x .number) (x .rm .0) (x .kind)) hs) hs₁) where
     start-none : (stateAt p tb₁ ≡ transaction.committing → ⊥) → eqb (length hs₁) 0 ≡ true → Here (endCommitted p tb₁ log)
     unfolding endCommitted
     start-none not-committing empty = rw (unlogged-end p tb₁ log not-committing) (unlogged (emptied p tb₁) (toApp name.AppCommitted) (addressed-one tb e name.AppCommitted 0 (inl refl)) (used-emptied p tb₁) (ends-for t p tb₁ (z .stands))
-        (λ h f l a. rw (shown, view-ends t p tb₁ (z .stands)) (commit-empty refl calm (none-aborted t tb e (toApp name.AppCommitted) (only-one notAborted name.AppCommitted 0 refl)) (λ m w. empty-some hs₁ (Unasked m) empty (unasked m w)))))
+        (λ h f l a. rw (shown, view-ends t p tb₁ (z .stands)) (commit-empty refl calm (none-aborted t tb e (toApp name.AppCommitted) (only-one notAborted name.AppCommitted 0 refl)) (λ n r k w. empty-some hs₁ (Unasked n r k) empty (unasked n r k w)))))
 
     start-one : (es : List Enlistment) → hs₁ ≡ es → eqb (length es) 1 ≡ true → Here (saying (toEach name.Single hs₁) (quietly (goTo p transaction.singlePhase (changeHeld p (inState enlistment.onePhase) tb₁)) log))
     unfolding messageOf toEach sortBy insertBy
@@ -442,16 +439,23 @@ module _ (tb : Table) (e : Event) (log : List ℕ) (t : Id) (p : ℕ) (tb₁ : T
     start-one (x ∷ y ∷ es) q o = absurd (omega (arith, eqb-true (length (x ∷ y ∷ es)) 1 o))
     start-one (x ∷ []) q o = unlogged (goTo p transaction.singlePhase (changeHeld p (inState enlistment.onePhase) tb₁)) (toEach name.Single hs₁) (addressed-each tb e name.Single hs₁ home) (used-goes p transaction.singlePhase (inState enlistment.onePhase) tb₁) (λ u n. goes-other t p tb₁ (z .stands) transaction.singlePhase (inState enlistment.onePhase) u (keeps-state enlistment.onePhase) n)
         (λ h f l a. rw (shown, view-goes t p tb₁ (z .stands) transaction.singlePhase (inState enlistment.onePhase) (λ q. omega arith))
-        (ask-one {n₀ = x .number} refl calm (quiet t tb e (toEach name.Single hs₁) (only-each notCommitted name.Single hs₁ refl) (only-each notAborted name.Single hs₁ refl))
-        (λ m w. let y : Some (Unasked m) hs₁ = unasked m w in sym (y .holds .0) ∙ only (y .it) (y .there))
-        (λ y m. let c : Some (λ w. y ≡ inState enlistment.onePhase w) hs₁ = held-came p (inState enlistment.onePhase) tb₁ m in ap (λ (y : Enlistment). y .number) (c .holds) ∙ only (c .it) (c .there))
+        (ask-one {n₀ = x .number} {r₀ = x .rm .0} {k₀ = x .kind} refl calm (quiet t tb e (toEach name.Single hs₁) (only-each notCommitted name.Single hs₁ refl) (only-each notAborted name.Single hs₁ refl))
+        (joined x here)
+        (λ n r k w. same n r k (unasked n r k w))
+        (λ y m. let c : Some (λ w. y ≡ inState enlistment.onePhase w) hs₁ = held-came p (inState enlistment.onePhase) tb₁ m in ap (λ (y : Enlistment). y .number) (c .holds) ∙ ap (λ (y : Enlistment). y .number) (only (c .it) (c .there)))
         (there q)))
       where
-        only : (y : Enlistment) → y ∈ hs₁ → y .number ≡ x .number
-        only y m = ap (λ (y : Enlistment). y .number) (by-either (λ r. r) (λ r. absurd (List·Memᴰ·not-nil r)) (List·Memᴰ·cases-cons (rw q at m)))
+        only : (y : Enlistment) → y ∈ hs₁ → y ≡ x
+        only y m = by-either (λ r. r) (λ r. absurd (List·Memᴰ·not-nil r)) (List·Memᴰ·cases-cons (rw q at m))
+
+        same : (n : ℕ) (r : Id) (k : ℕ) → Some (Unasked n r k) hs₁ → (n ≡ x .number) × (r ≡ x .rm .0) × (k ≡ x .kind)
+        same n r k y = let i : Is n r k x = rw (only (y .it) (y .there)) at (y .holds .0) in (sym (i .0), sym (i .1), sym (i .2))
+
+        here : x ∈ hs₁
+        here = rw q (List·Memᴰ·head refl)
 
         mine : t ≡ messageOf tb e (signal name.Single (x .number)) .about
-        mine = sym about ∙ sym (owned-about tb e name.Single (x .number) (home x (rw q (List·Memᴰ·head refl))))
+        mine = sym about ∙ sym (owned-about tb e name.Single (x .number) (home x here))
 
         there : hs₁ ≡ x ∷ [] → record { about = t; name = name.Single; number = x .number } ∈ map (messageOf tb e) (toEach name.Single hs₁)
         there q = rw q (List·Memᴰ·head (λ i. record { about = mine i; name = name.Single; number = x .number }))
@@ -460,7 +464,7 @@ module _ (tb : Table) (e : Event) (log : List ℕ) (t : Id) (p : ℕ) (tb₁ : T
     start-many = unlogged (goTo p transaction.phaseOne (changeHeld p (inState enlistment.preparing) tb₁)) (toEach name.Prepare hs₁) (addressed-each tb e name.Prepare hs₁ home) (used-goes p transaction.phaseOne (inState enlistment.preparing) tb₁) (λ u n. goes-other t p tb₁ (z .stands) transaction.phaseOne (inState enlistment.preparing) u (keeps-state enlistment.preparing) n)
         (λ h f l a. rw (shown, view-goes t p tb₁ (z .stands) transaction.phaseOne (inState enlistment.preparing) (λ q. omega arith))
         (prepare refl calm (quiet t tb e (toEach name.Prepare hs₁) (only-each notCommitted name.Prepare hs₁ refl) (only-each notAborted name.Prepare hs₁ refl))
-        (λ m w. held-own (Unasked m) (Preparing m) p (inState enlistment.preparing) tb₁ (λ x _ u. ((u .0, refl), refl)) (unasked m w))))
+        (λ n r k w. held-own (Unasked n r k) (Preparing n r k) p (inState enlistment.preparing) tb₁ (λ x _ u. ((u .0, refl), refl)) (unasked n r k w))))
 
     pub own-start : (stateAt p tb₁ ≡ transaction.committing → ⊥) → Here (startPhaseOne p tb₁ log)
     unfolding startPhaseOne

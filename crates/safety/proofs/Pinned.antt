@@ -29,9 +29,9 @@ breaks : {host : Host} {w : World} → Run host w → (later sooner : Issued) �
 breaks {host} {w} r later sooner e a c = (
   w,
   r,
-  λ s. s .never-both (id 7)
-      (record { it = sooner; there = rw e (List·Memᴰ·tail (List·Memᴰ·head refl)); holds = c })
-      (record { it = later; there = rw e (List·Memᴰ·head refl); holds = a }),
+  id 7,
+  record { it = sooner; there = rw e (List·Memᴰ·tail (List·Memᴰ·head refl)); holds = c },
+  record { it = later; there = rw e (List·Memᴰ·head refl); holds = a },
 )
 
 abbrev app-committed : Issued

@@ -12,7 +12,7 @@ use lib.Dec.{eqb}
 use borrow.Author.Tests.{eqb-true, eqb-false, eq-eqb, ne-eqb}
 use Rattle.lists.specs.Members.{_∈_, Some, Apart}
 use Rattle.lists.specs.Lists.{any, filter}
-use Rattle.lists.proofs.Tests.{by-test, by-either, no-clash, and-true, true-and, true-or, not-true, false-not, any-some, some-any, filter-filter}
+use Rattle.lists.proofs.Tests.{by-test, by-either, no-clash, and-true, true-and, true-or, not-true, false-not, any-some, some-any, none-each, filter-filter}
 use Rattle.lists.proofs.Places.{in-places}
 use Rattle.lists.proofs.Apart.{apart-narrower, apart-changed}
 use Rattle.rules.specs.declared.Enlistment.{Enlistment}
@@ -42,16 +42,16 @@ use Rattle.rules.specs.Log.{forgetSize}
 use Rattle.rules.specs.Signals.{toApp}
 use Rattle.rules.specs.Events.{Outcome, quietly, saying, toVote, toReply, toLost, reactionOf, follow, react}
 use Rattle.rules.specs.Refusals.{isRefused}
-use Rattle.rules.proofs.Frames.{of-held, held-came, held-own, held-shorter, named-is, named-other, named-place, not-zero, Stands}
+use Rattle.rules.proofs.Frames.{of-held, held-came, held-own, held-shorter, named-is, named-other, named-place, not-zero, Stands, stands-place}
 use Rattle.rules.proofs.Parts.{used-emptied}
 use Rattle.safety.specs.World.{Note, ownerOf, told, noteOf, messageOf, subjectOf}
 use Rattle.safety.specs.Host.{Prepares, Closes}
 use Rattle.safety.specs.Demand3.{Votes, Yes}
 use Rattle.safety.proofs.Alone as alone
-use Rattle.safety.proofs.Alone.{Story, Hopes, Waits, Unasked, Preparing, NoDurable}
+use Rattle.safety.proofs.Alone.{Story, Hopes, Waits, Is, Unasked, Preparing, NoDurable}
 use Rattle.safety.proofs.Move.{Calm, calm-note, nothing-calm, NotEnlisted, VoteOf, Doomed, from-early, from-voting, from-single, to-out, Move, gather, vote-on, abort, replied, told-on}
 use Rattle.safety.proofs.Top.{Agrees}
-use Rattle.safety.proofs.View.{viewOf, look, view-stands, view-changes, view-held-other, view-ends, state-held, stands-held}
+use Rattle.safety.proofs.View.{viewOf, look, view-in, view-changes, view-held-other, view-ends, state-held, stands-held}
 use Rattle.safety.proofs.Given.{id-size, owner-held, Row, in-active, in-zero, in-voting, in-single, in-commit, in-abort, Named}
 use Rattle.safety.proofs.Messages.{notCommitted, notAborted, only-nothing, only-one, Owned, addressed-nothing, addressed-one, none-committed, none-aborted, quiet}
 use Rattle.safety.proofs.Own.{by-cases, Own, Touched, unlogged, unlogged-end, ends-for, own-abort, Voted, own-decide, own-end-aborting, own-end-committing, own-start}
@@ -124,6 +124,10 @@ module _ (tb : Table) (s : Sound tb) (t : Id) (p : ℕ) (at : Stands t p tb) whe
 
   pub held-sized : {x : Enlistment} → x ∈ held p tb → (length (x .rm .0) ≡ identifierSize) × (x .number ≤ largestNumber)
   held-sized {x} m = (s .manager-identifiers x (of-held p tb m .0) (held-live m) .0, s .numbers x (of-held p tb m .0) (held-live m) .1)
+
+  -- who is held votes, but for P
+  pub held-votes : {x : Enlistment} → x ∈ held p tb → isPhaseZero x ≡ false → Votes (x .kind)
+  held-votes {x} m n = by-either (λ q. absurd (eqb-false (x .kind) kind.phaseZero n q)) (λ q. q) (s .kinds x (of-held p tb m .0) (held-live m) .0)
 
   pub own-id-size : length t ≡ identifierSize
   own-id-size = ap length (sym (named-is t (transactionAt p tb) (at .here) .1)) ∙ id-size tb s p (named-is t (transactionAt p tb) (at .here) .0)
@@ -206,10 +210,13 @@ module _ (tb : Table) (log : List ℕ) (n : ℕ) (s : Sound tb) (full : length l
   mild-on : (f : Enlistment → Enlistment) → Mild f → Mild (onNumber n f)
   mild-on f mild e = by-cases (λ (w : Enlistment). ((w .holder ≡ e .holder) × (w .rm ≡ e .rm) × (w .number ≡ e .number) × (w .kind ≡ e .kind)) ⊎ (w .holder ≡ 0)) (isNumbered n e) (f e) e (λ _. mild e) (λ _. inl (refl, refl, refl, refl))
 
-  -- what is held came from what was held, with its own number
-  was : (f : Enlistment → Enlistment) → Mild f → {w : Enlistment} → w ∈ held p (changed f) → Some (λ e. (w .rm ≡ e .rm) × (w .number ≡ e .number)) hs
+  -- what is held was held, as the same
+  abbrev Was : Enlistment → Type 0
+  Was w = Some (λ e. (w .rm ≡ e .rm) × (w .number ≡ e .number) × (w .kind ≡ e .kind)) hs
+
+  was : (f : Enlistment → Enlistment) → Mild f → {w : Enlistment} → w ∈ held p (changed f) → Was w
   was f mild {w} m = by-either
-      (λ q. record { it = c .it; there = c .there; holds = (ap (λ (e : Enlistment). e .rm) (c .holds) ∙ q .1, ap (λ (e : Enlistment). e .number) (c .holds) ∙ q .2) })
+      (λ q. record { it = c .it; there = c .there; holds = (ap (λ (e : Enlistment). e .rm) (c .holds) ∙ q .1, ap (λ (e : Enlistment). e .number) (c .holds) ∙ q .2, ap (λ (e : Enlistment). e .kind) (c .holds) ∙ q .3) })
       (λ q. absurd (not-zero (named-place t p tb (named .stands .here)) (sym (of-held p (changed f) m .1) ∙ ap (λ (e : Enlistment). e .holder) (c .holds) ∙ q)))
       (mild-on f mild (c .it))
     where
@@ -262,13 +269,13 @@ module _ (tb : Table) (log : List ℕ) (n : ℕ) (s : Sound tb) (full : length l
     managers-apart = managers-apart-after f mild;
   }
     where
-      sized : (w : Enlistment) → Some (λ e. (w .rm ≡ e .rm) × (w .number ≡ e .number)) hs → (length (w .rm .0) ≡ identifierSize) × (w .number ≤ largestNumber)
+      sized : (w : Enlistment) → Was w → (length (w .rm .0) ≡ identifierSize) × (w .number ≤ largestNumber)
       sized w q = (ap (λ (r : RmId). length (r .0)) (q .holds .0) ∙ held-sized tb s t p (named .stands) (q .there) .0, rw (q .holds .1) (held-sized tb s t p (named .stands) (q .there) .1))
 
-      came : (w : Enlistment) → Some (λ e. (w .rm ≡ e .rm) × (w .number ≡ e .number)) hs → Some (λ e. (w .rm .0 ≡ e .rm .0) × (w .number ≡ e .number)) hs
+      came : (w : Enlistment) → Was w → Some (λ e. (w .rm .0 ≡ e .rm .0) × (w .number ≡ e .number)) hs
       came w q = record { it = q .it; there = q .there; holds = (ap (λ (r : RmId). r .0) (q .holds .0), q .holds .1) }
 
-      owned : (w : Enlistment) → Some (λ e. (w .rm ≡ e .rm) × (w .number ≡ e .number)) hs → Owned tb t (w .number)
+      owned : (w : Enlistment) → Was w → Owned tb t (w .number)
       owned w q = inr (rw (q .holds .1) (owner-held tb s t p (named .stands) (q .there) .1))
 
   -- another number is left alone
@@ -288,7 +295,7 @@ module _ (tb : Table) (log : List ℕ) (n : ℕ) (s : Sound tb) (full : length l
 
   -- the view before and after, by the state of the transaction
   view-before : (k : ℕ) → stateAt p tb ≡ k → viewOf t tb ≡ look k hs
-  view-before k q = view-stands t p tb (named .stands) ∙ ap (λ k. look k hs) q
+  view-before = view-in t p tb (stands-place t p tb (named .stands))
 
   view-after : (f : Enlistment → Enlistment) (k : ℕ) → stateAt p tb ≡ k → viewOf t (changed f) ≡ look k (held p (changed f))
   view-after f k q = view-changes t p tb (named .stands) (onNumber n f) ∙ ap (λ k. look k (held p (changed f))) q
@@ -314,12 +321,12 @@ module _ (tb : Table) (log : List ℕ) (n : ℕ) (s : Sound tb) (full : length l
     not-hoping : (r : Id) → Hopes r me → ⊥
     not-hoping r h = by-either (λ q. omega arith) (λ q. omega arith) (h .2)
 
-    voted-preparing : (f : Enlistment → Enlistment) → Yes v → (m : ℕ) → Some (Preparing m) hs → VoteOf t m cast ⊎ Some (Preparing m) (held p (changed f))
-    voted-preparing f yes-vote m h = go (ℕ-discrete m n)
+    voted-preparing : (f : Enlistment → Enlistment) → Yes v → (m : ℕ) (r : Id) (k : ℕ) → Some (Preparing m r k) hs → VoteOf t m r k cast ⊎ Some (Preparing m r k) (held p (changed f))
+    voted-preparing f yes-vote m r k h = go (ℕ-discrete m n)
       where
-        go : Dec (m ≡ n) → VoteOf t m cast ⊎ Some (Preparing m) (held p (changed f))
-        go (yes q) = inl (me .rm .0, me .kind, v, ap (λ k. Note.voted t k (me .rm .0) (me .kind) v) (sym q), yes-vote)
-        go (no q) = inr (keep-others (Preparing m) f (λ w. q (sym (w .0) ∙ named .number)) h)
+        go : Dec (m ≡ n) → VoteOf t m r k cast ⊎ Some (Preparing m r k) (held p (changed f))
+        go (yes q) = let i : Is m r k me = rw (named .only (h .there) (h .holds .0 .0 ∙ q)) (h .holds .0) in inl (v, rw (q, i .1, i .2) refl, yes-vote)
+        go (no q) = inr (keep-others (Preparing m r k) f (λ w. q (sym (w .0 .0) ∙ named .number)) h)
 
     abbrev HasVoted : (f : Enlistment → Enlistment) → Mild f → Type 0
     HasVoted f mild = Voted tb this-event log t p (changed f) (touched f mild) refl hs (noteOf tb this-event)
@@ -459,8 +466,8 @@ module _ (tb : Table) (log : List ℕ) (n : ℕ) (s : Sound tb) (full : length l
   own-zero-done state = by-cases (Own tb this-event log t) (any isPhaseZero (held p (changed freed))) _ _
       (λ _. unlogged tb this-event log t p (changed freed) (touched freed freed-mild) refl (changed freed) [] (addressed-nothing tb this-event) refl (λ u d. refl)
       (λ h made l g. rw (view-before transaction.phaseZero (two .0), view-after freed transaction.phaseZero (two .0))
-      (gather refl (nothing-calm t .not-prepared) (quiet t tb this-event [] (only-nothing notCommitted) (only-nothing notAborted)) unasked (λ m r k q w. absurd (nothing-calm t .not-enlisted m r k q)))))
-      (λ _. own-start tb this-event log t p (changed freed) (touched freed freed-mild) refl hs (view-before transaction.phaseZero (two .0)) (nothing-calm t) unasked (λ c. omega (arith, c, state-after freed transaction.phaseZero (two .0))))
+      (gather refl (nothing-calm t .not-prepared) (quiet t tb this-event [] (only-nothing notCommitted) (only-nothing notAborted)) unasked (λ m r k q w. absurd (nothing-calm t .not-enlisted m r k q)) (λ e m. inl (same e (was freed freed-mild m))))))
+      (λ none. own-start tb this-event log t p (changed freed) (touched freed freed-mild) refl hs (view-before transaction.phaseZero (two .0)) (nothing-calm t) unasked (λ e m. voting e (none-each isPhaseZero (held p (changed freed)) none e m) (was freed freed-mild m)) (λ c. omega (arith, c, state-after freed transaction.phaseZero (two .0))))
     where
       this-event : Event
       this-event = event (act.ZeroDone n)
@@ -471,8 +478,14 @@ module _ (tb : Table) (log : List ℕ) (n : ℕ) (s : Sound tb) (full : length l
       no-vote : Votes (me .kind) → ⊥
       no-vote m = by-either (λ q. omega (arith, q, two .1)) (λ q. omega (arith, q, two .1)) m
 
-      unasked : (m : ℕ) → Some (Unasked m) hs → Some (Unasked m) (held p (changed freed))
-      unasked m h = keep-others (Unasked m) freed (λ q. no-vote (q .1)) h
+      unasked : (m : ℕ) (r : Id) (k : ℕ) → Some (Unasked m r k) hs → Some (Unasked m r k) (held p (changed freed))
+      unasked m r k h = keep-others (Unasked m r k) freed (λ q. no-vote (q .1)) h
+
+      same : (e : Enlistment) → Was e → Some (Is (e .number) (e .rm .0) (e .kind)) hs
+      same e w = record { it = w .it; there = w .there; holds = (sym (w .holds .1), sym (ap (λ (r : RmId). r .0) (w .holds .0)), sym (w .holds .2)) }
+
+      voting : (e : Enlistment) → isPhaseZero e ≡ false → Was e → Some (Unasked (e .number) (e .rm .0) (e .kind)) hs
+      voting e q w = record { it = w .it; there = w .there; holds = (same e w .holds, held-votes tb s t p (named .stands) (w .there) (ap (λ k. eqb k kind.phaseZero) (sym (w .holds .2)) ∙ q)) }
 
   -- ── lost ──────────────────────────────────────────────────────────────────────────────────────────────────────
 
@@ -488,7 +501,7 @@ module _ (tb : Table) (log : List ℕ) (n : ℕ) (s : Sound tb) (full : length l
   lost-prepared state = unlogged tb lost log t p (changed (inState enlistment.preparedLost)) (touched (inState enlistment.preparedLost) (state-mild enlistment.preparedLost)) refl (changed (inState enlistment.preparedLost)) [] (addressed-nothing tb lost) refl (λ u d. refl)
       (λ h made l g. rw (view-before transaction.phaseOne three, view-after (inState enlistment.preparedLost) transaction.phaseOne three)
       (vote-on refl (quiet t tb lost [] (only-nothing notCommitted) (only-nothing notAborted)) (nothing-calm t .not-enlisted)
-      (λ m w. inr (keep-others (Preparing m) (inState enlistment.preparedLost) (λ q. omega (arith, state, q .1)) w))
+      (λ m r k w. inr (keep-others (Preparing m r k) (inState enlistment.preparedLost) (λ q. omega (arith, state, q .1)) w))
       (λ r w. held-own (Hopes r) (Hopes r) p (onNumber n (inState enlistment.preparedLost)) tb (λ e m q. by-cases (λ (v : Enlistment). Hopes r v × (v .holder ≡ e .holder)) (isNumbered n e) (inState enlistment.preparedLost e) e (λ _. ((q .0, q .1, inr refl), refl)) (λ _. (q, refl))) w)
       (λ r q. absurd (nothing-calm t .not-prepared r q))))
     where

@@ -26,20 +26,20 @@ use Rattle.rules.specs.Table.{noTransaction, isNamed, placeNamed, transactionAt
 use Rattle.rules.specs.Sound.{Sound, HoldsWell, In, Durable, isOpen, openPlaces, openCount, active, phase-zero, phase-one, single-phase, committing, aborting}
 use Rattle.rules.specs.Events.{doneFor, byIdentifier, finished, endEach, reenlistedOf}
 use Rattle.rules.proofs.Identifiers.{same-equal}
-use Rattle.rules.proofs.Frames.{named-found, none-absent, named-place, Stands, Absent, is-named}
+use Rattle.rules.proofs.Frames.{named-found, none-absent, named-place, Stands, Absent, stands-place, is-named}
 use Rattle.rules.specs.Restart.{Open, isOpenAs}
 use Rattle.safety.specs.World.{Note}
 use Rattle.safety.specs.Host.{Closes}
 use Rattle.safety.proofs.Alone as alone
-use Rattle.safety.proofs.Alone.{Story, closed, View, out, Waits}
+use Rattle.safety.proofs.Alone.{Story, closed, View, out, Waits, NoDurable}
 use Rattle.safety.proofs.Move.{Quiet, Calm, calm-note, Move, stay, told-on, end-logged}
 use Rattle.safety.proofs.Top.{Agrees}
-use Rattle.safety.proofs.Story.{story, onForget, Tells}
-use Rattle.safety.proofs.View.{viewOf, look, view-stands, view-absent}
+use Rattle.safety.proofs.Story.{story, onForget}
+use Rattle.safety.proofs.View.{viewOf, look, view-in, view-stands, view-absent}
 use Rattle.safety.proofs.Given.{stands-sound, id-size, row}
 use Rattle.safety.proofs.Own.{by-cases}
 use Rattle.safety.proofs.Reactions.{live, of-commit}
-use Rattle.safety.proofs.Fitting.{Ready, Judged, mine-some, live-nonzero}
+use Rattle.safety.proofs.Fitting.{Ready, Judged, told-open, live-nonzero}
 use Rattle.safety.proofs.Ends.{Roomy, Seen, forgets, each-other, each-own, Forgettable, each-fits, open-live, live-open}
 
 -- ── the enlistments ─────────────────────────────────────────────────────────────────────────────────────────────
@@ -117,7 +117,7 @@ module _ (r : Id) (tb : Table) (log : List ℕ) (s : Sound tb) (full : length lo
 
   pub roomy-after : Roomy after log
   unfolding after
-  roomy-after = record { sized = λ q l. id-size tb s q l; room = rw (as-many, full) (s .room) }
+  roomy-after = record { sized = id-size tb s; room = rw (as-many, full) (s .room) }
 
   -- ── what it writes fits ───────────────────────────────────────────────────────────────────────────────────────
 
@@ -126,25 +126,22 @@ module _ (r : Id) (tb : Table) (log : List ℕ) (s : Sound tb) (full : length lo
   forgettable os r = record {
     opened = λ q b. opened q (sym (open-after q (stateAt q tb)) ∙ b);
     unlike = λ q k a b e. sym (stands-sound tb s (idAt q tb) q (is-named (transactionAt q tb) a) .alone k (rw e (is-named (transactionAt k tb) b)));
-    sizes = λ q a. id-size tb s q a;
+    sized = id-size tb s;
     space = r .room;
   }
     where
       at : (q : ℕ) → isOpen (stateAt q tb) (held q tb) ≡ true → Stands (idAt q tb) q tb
       at q b = stands-sound tb s (idAt q tb) q (is-named (transactionAt q tb) (open-live q tb b))
 
-      durable : (q : ℕ) → isOpen (stateAt q tb) (held q tb) ≡ true → any isDurable (held q tb) ≡ true
-      durable q b = true-and (eqb (stateAt q tb) transaction.committing) (any isDurable (held q tb)) b .1
+      durable : (q : ℕ) → isOpen (stateAt q tb) (held q tb) ≡ true → NoDurable (held q tb) → ⊥
+      durable q b y = let w : Some (λ x. isDurable x ≡ true) (held q tb) = any-some isDurable (held q tb) (true-and (eqb (stateAt q tb) transaction.committing) (any isDurable (held q tb)) b .1) in
+          y (w .it) (w .there) (eqb-true (w .it .kind) kind.durable (w .holds))
 
       shows : (q : ℕ) → isOpen (stateAt q tb) (held q tb) ≡ true → viewOf (idAt q tb) tb ≡ alone.committing (held q tb)
-      shows q b = view-stands (idAt q tb) q tb (at q b) ∙ ap (λ n. look n (held q tb)) (live-open (stateAt q tb) (held q tb) b)
-
-      told-open : (q : ℕ) → (k : Story) → any isDurable (held q tb) ≡ true → Agrees (alone.committing (held q tb)) k → Tells (idAt q tb) k os → any (isOpenAs (idAt q tb)) os ≡ true
-      told-open q k d (inl (rs, e, y, n)) h = let w : Tells (idAt q tb) (alone.open-with rs) os = rw e at h in mine-some (idAt q tb) os (w .0) (w .1)
-      told-open q k d (inr (e, y)) h = let w : Some (λ x. isDurable x ≡ true) (held q tb) = any-some isDurable (held q tb) d in absurd (y (w .it) (w .there) (eqb-true (w .it .kind) kind.durable (w .holds)))
+      shows q b = view-in (idAt q tb) q tb (stands-place (idAt q tb) q tb (at q b)) transaction.committing (live-open (stateAt q tb) (held q tb) b)
 
       opened : (q : ℕ) → isOpen (stateAt q tb) (held q tb) ≡ true → (isZero (idAt q tb) ≡ false) × (any (isOpenAs (idAt q tb)) os ≡ true)
-      opened q b = (live-nonzero tb s (idAt q tb) q (at q b), told-open q (r .storied (idAt q tb)) (durable q b) (rw (shows q b) at (r .agrees (idAt q tb))) (r .tells (idAt q tb)))
+      opened q b = (live-nonzero tb s (idAt q tb) q (at q b), told-open tb log os r (idAt q tb) (held q tb) (shows q b) (durable q b))
 
   pub reenlisted-judged : Judged tb log (endEach ps after log .table .used) (forgets ps after log)
   reenlisted-judged = record { judged = λ os r. each-fits ps after log (length log) os (forgettable os r) }

@@ -32,16 +32,19 @@ look (suc (suc (suc (suc (suc (suc (suc n))))))) hs = out
 unfoldable pub viewOf : Id → Table → View
 viewOf t tb = look (stateAt (placeNamed t tb) tb) (held (placeNamed t tb) tb)
 
-pub view-stands : (t : Id) (p : ℕ) (tb : Table) → Stands t p tb → viewOf t tb ≡ look (stateAt p tb) (held p tb)
+-- by its place, and the state there
+pub view-in : (t : Id) (p : ℕ) (tb : Table) → placeNamed t tb ≡ p → (k : ℕ) → stateAt p tb ≡ k → viewOf t tb ≡ look k (held p tb)
 unfolding viewOf
-view-stands t p tb s = ap (λ q. look (stateAt q tb) (held q tb)) (stands-place t p tb s)
+view-in t p tb e k q = ap (λ q. look (stateAt q tb) (held q tb)) e ∙ ap (λ k. look k (held p tb)) q
+
+pub view-stands : (t : Id) (p : ℕ) (tb : Table) → Stands t p tb → viewOf t tb ≡ look (stateAt p tb) (held p tb)
+view-stands t p tb s = view-in t p tb (stands-place t p tb s) (stateAt p tb) refl
 
 pub state-none : (tb : Table) → stateAt 0 tb ≡ 0
 state-none tb = ap (λ (x : Transaction). x .state) (at-below noTransaction 1 0 (tb .transactions) (omega arith))
 
 pub view-absent : (t : Id) (tb : Table) → Absent t tb → viewOf t tb ≡ out
-unfolding viewOf
-view-absent t tb a = ap (λ q. look (stateAt q tb) (held q tb)) (absent-place t tb a) ∙ ap (λ n. look n (held 0 tb)) (state-none tb)
+view-absent t tb a = view-in t 0 tb (absent-place t tb a) 0 (state-none tb)
 
 -- the same place, the same state and the same enlistments there
 pub view-same : (u : Id) (tb tb′ : Table) → placeNamed u tb′ ≡ placeNamed u tb

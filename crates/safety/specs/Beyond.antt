@@ -30,7 +30,8 @@ use Rattle.safety.specs.Demand3.{About}
 abbrev pub PartStored : World → Type 0
 PartStored w = (rest : List ℕ) × (w .disk ++ rest ≡ usedPart (w .table) (w .log))
 
--- Wherever power fails, a restart with the same capacity is accepted, and its table is sound.
+-- While the coordinator runs, once the stored log is trimmed to where restart said: wherever power fails as more is stored, a restart with
+-- the same capacity is accepted, and its table is sound.
 unfoldable pub NeverBricked : Type 0
 NeverBricked = (w : World) → Run careful w → (w .table .used ≡ 0 → ⊥) → PartStored w → (spare : List ℕ) → length (w .disk ++ spare) ≡ w .table .capacity
     → (restartOf (w .disk ++ spare) (length (w .disk)) .refusal ≡ refusal.accepted) × (soundOf (restartOf (w .disk ++ spare) (length (w .disk)) .table) ≡ true)

@@ -28,21 +28,28 @@ Votes k = (k ≡ kind.volatile) ⊎ (k ≡ kind.durable)
 abbrev pub Yes : Vote → Type 0
 Yes v = (v ≡ vote.Prepared) ⊎ (v ≡ vote.ReadOnly)
 
-pub record VotedYes (t : Id) (n : ℕ) (h : List Note) : Type 0 where
-  pub manager : Id
-  pub kind : ℕ
+-- the vote is that of the enlistment itself: of its number, its resource manager and its kind
+pub record VotedYes (t : Id) (n : ℕ) (r : Id) (k : ℕ) (h : List Note) : Type 0 where
   pub vote : Vote
-  pub accepted : Note.voted t n manager kind vote ∈ h
+  pub accepted : Note.voted t n r k vote ∈ h
   pub yes : Yes vote
 
 abbrev pub AllVotedYes : Id → List Note → Type 0
-AllVotedYes t h = (n : ℕ) (r : Id) (k : ℕ) → Note.enlisted t n r k ∈ h → Votes k → VotedYes t n h
+AllVotedYes t h = (n : ℕ) (r : Id) (k : ℕ) → Note.enlisted t n r k ∈ h → Votes k → VotedYes t n r k h
 
 -- ── "or the only one, asked in single phase, answered committed" ────────────────────────────────────────────────
 
+-- a volatile or durable enlistment was accepted in t with this number, and no other one
+pub record OnlyOne (t : Id) (number : ℕ) (h : List Note) : Type 0 where
+  pub manager : Id
+  pub kind : ℕ
+  pub enlisted : Note.enlisted t number manager kind ∈ h
+  pub votes : Votes kind
+  pub only : (n : ℕ) (r : Id) (k : ℕ) → Note.enlisted t n r k ∈ h → Votes k → (n ≡ number) × (r ≡ manager) × (k ≡ kind)
+
 pub record OnlyOneCommitted (t : Id) (h : List Note) (issued : List Message) : Type 0 where
   pub number : ℕ
-  pub only : (n : ℕ) (r : Id) (k : ℕ) → Note.enlisted t n r k ∈ h → Votes k → n ≡ number
+  pub one : OnlyOne t number h
   pub asked : record { about = t; name = name.Single; number = number } ∈ issued
   pub answered : Note.replied t number reply.Committed ∈ h
 

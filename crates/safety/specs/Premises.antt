@@ -1,17 +1,19 @@
 -- Each premise is needed: hosts that keep all of them but one. What is said of each is that it breaks the claim: a run with it reaches
--- a world that is not safe.
+-- a world in which one transaction has both a committed and an aborted message sent.
 use Prim.Native.Nat.{ℕ}
 use mathlib.Core.Path.{_≡_}
 use mathlib.Core.List.{List, _++_}
 use lib.ListN.{drop}
 use Rattle.rules.specs.Sizes.{headerSize}
+use Rattle.rules.specs.Identifiers.{Id}
+use Rattle.rules.specs.Signals.{Committed, Aborted}
 use Rattle.safety.specs.World.{World, usedPart}
 use Rattle.safety.specs.Host.{Host, careful}
 use Rattle.safety.specs.Run.{Run}
-use Rattle.safety.specs.Demand3.{Safe}
+use Rattle.safety.specs.Demand3.{About}
 
 abbrev pub Breaks : Host → Type 0
-Breaks host = (w : World) × Run host w × (Safe w → ⊥)
+Breaks host = (w : World) × Run host w × (t : Id) × About t Committed (w .sent) × About t Aborted (w .sent)
 
 -- begins an identifier again
 abbrev pub beginsAgain : Host
