@@ -2,20 +2,15 @@
 use Prim.Native.Nat.{_-_}
 use mathlib.Core.Path.{refl, sym, _∙_}
 use mathlib.Core.Bool.{_&&_}
-use mathlib.Core.List.{[]}
 use borrow.Author.Needs.{needs}
 use Rattle.lists.specs.Lists.{firstOr}
 use Rattle.lists.proofs.Loops.{long, first-filter, Looked, look-start, look-next, look-stop, look-done}
-use Rattle.rules.specs.declared.Enlistment.{Enlistment}
 use Rattle.rules.specs.Table.{noEnlistment, held, heldBy}
 use Rattle.rules.specs.Events.{isUndone}
+use Rattle.passes.proofs.Laws.{nowhere}
 use Rattle.holdings.specs.Holdings.{alone}
 use Rattle.managers.proofs.undone.Statement.{statement}
 use Rattle.managers.proofs.undone.Tie as tie
-
--- what is read past the end
-abbrev nowhere : Enlistment
-nowhere = record { holder = 0; rm = record { 0 = [] }; number = 0; kind = 0; mark = 0; state = 0 }
 
 pub undone-spec : {M : Type 1} → statement M
 unfolding alone held firstOr
