@@ -6,8 +6,6 @@ use mathlib.Core.List.{List, []}
 use lib.Dec.{eqb}
 use lib.ListN.{length}
 use borrow.Author.Tests.{eqb-true, eqb-false}
-use Rattle.rules.specs.declared.Table.{Table}
-use Rattle.rules.specs.declared.Event.{Event}
 use Rattle.rules.specs.declared.Signals.{Signals}
 use Rattle.rules.specs.RefusalNumber as refusal
 use Rattle.rules.specs.Signals.{rowOf}

@@ -29,7 +29,7 @@ use Rattle.holdings.specs.Holdings.{alone}
 use Rattle.holdings.specs.Within.{taken}
 use Rattle.holdings.proofs.Within.{passes-through}
 use Rattle.holdings.proofs.Taken.{taken-fits, taken-back}
-use Rattle.reenlisting.specs.Ends.{Few, Ready}
+use Rattle.reenlisting.specs.Ends.{Few, ReadyIn}
 use Rattle.rows.specs.Memory.{transactionIn, tableIn}
 use Rattle.entering.specs.StepIn.{Fine}
 use Rattle.events.proofs.Takes.{Takes, live-takes}
@@ -84,7 +84,7 @@ sound-few tb s p low = by-test (eqb (stateAt p tb) 0)
     (λ t. omega (arith, ap (λ l. length l) (filter-none (heldBy p) (tb .enlistments) (λ e m. ne-eqb (e .holder) p (λ q. s .holders-live e m (λ z. omega (arith, z, q, low)) (ap (λ k. stateAt k tb) q ∙ eqb-true _ 0 t))))))
     (λ t. s .few p (eqb-false _ 0 t))
 
-pub fine-ready : {heads rows : List (List ℕ)} {capacity used : ℕ} → Fine heads rows capacity used → Ready heads rows capacity used
+pub fine-ready : {heads rows : List (List ℕ)} {capacity used : ℕ} → Fine heads rows capacity used → ReadyIn heads rows capacity used
 fine-ready {heads} {rows} {capacity} {used} f =
     let s : Sound (tableIn heads rows capacity used) = sound-sentences (tableIn heads rows capacity used) (f .sound) in
     record { heads-long = f .long-heads; rows-long = f .long-rows; used-first = omega (arith, s .room, s .capacity-small); few = sound-few (tableIn heads rows capacity used) s }

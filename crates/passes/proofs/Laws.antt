@@ -15,6 +15,10 @@ use Rattle.rules.specs.Table.{heldBy, isPhaseZero, isDurable, isMarked, isIn, i
 use Rattle.passes.specs.declared.Census.{Census}
 use Rattle.passes.specs.Census.{censusOf, moreOf, countedOf, Below}
 
+-- what is read past the end of an array: the code reads nothing there
+abbrev pub nowhere : Enlistment
+nowhere = record { holder = 0; rm = record { 0 = [] }; number = 0; kind = 0; mark = 0; state = 0 }
+
 -- the census of those that p holds among some
 abbrev pub censusHeld : ℕ → List Enlistment → Census
 censusHeld p es = censusOf (filter (heldBy p) es)

@@ -37,10 +37,10 @@ use Rattle.rows.specs.Memory.{transactionIn, enlistmentIn, tableIn}
 use Rattle.lent_tables.proofs.Within.{put-within}
 use Rattle.orders.specs.declared.Order.{Order}
 use Rattle.orders.specs.Orders.{orderOf}
+use Rattle.orders.specs.Which.{isFinished}
 use Rattle.orders.proofs.Laws.{order-take}
-use Rattle.endings.specs.Gives as gives
-use Rattle.reenlisting.specs.Finished.{isFinished}
-use Rattle.reenlisting.specs.Ends.{Few, usedFirst, Ready, Leaves}
+use Rattle.endings.specs.Gives.{Leaves, Ready}
+use Rattle.reenlisting.specs.Ends.{Few, usedFirst, ReadyIn, LeavesIn}
 
 -- ── one end ─────────────────────────────────────────────────────────────────────────────────────────────────────
 
@@ -57,13 +57,6 @@ end-few p tb log h q low = rw (end-held p q tb log) (by-test (eqb q p)
     (λ e. let i : q ≡ p = eqb-true q p e in rw i (omega (arith, held-shorter p freed tb, h p (omega arith))))
     (λ e. rw (held-other p q freed tb (λ x. inr refl) (eqb-false q p e) (λ z. omega arith)) (h q low)))
 
-module _ (p : ℕ) (tb : Table) (log : List ℕ) (placed : Placed p) (long : length (tb .transactions) ≡ transactionPlaces) (few : length (held p tb) ≤ heldMost) where
-  -- the end of what was taken out, put back, is the end
-  end-within : endOf p tb log ≡ through (Within.within tb p) (endOf p (alone (taken p 0 tb)) log)
-  end-within =
-      ap (λ t. endOf p t log) (sym (taken-back p 0 tb (placed .0) (placed .1) few))
-      ∙ end-through (passes-through tb p (record { low = placed .0; high = omega (arith, placed .1, long) })) (alone (taken p 0 tb)) log (taken-fits p 0 tb (placed .0) (placed .1) few)
-
 -- ── the loop ────────────────────────────────────────────────────────────────────────────────────────────────────
 
 pub record Ended (n : ℕ) (ps : List ℕ) (tb₀ : Table) (log₀ : List ℕ) (capacity : ℕ) (heads rows : List (List ℕ)) (log : List ℕ) (used i : ℕ) : Type 0 where
@@ -77,12 +70,12 @@ pub record Ended (n : ℕ) (ps : List ℕ) (tb₀ : Table) (log₀ : List ℕ) (
   pub few : Few (tableIn heads rows capacity used)
   pub same : endEach ps tb₀ log₀ ≡ endEach (drop i ps) (tableIn heads rows capacity used) log
 
-pub ended-start : {n : ℕ} {ps : List ℕ} {log : List ℕ} {capacity used : ℕ} {heads rows : List (List ℕ)} → length ps ≡ n → Each Placed ps → Ready heads rows capacity used
+pub ended-start : {n : ℕ} {ps : List ℕ} {log : List ℕ} {capacity used : ℕ} {heads rows : List (List ℕ)} → length ps ≡ n → Each Placed ps → ReadyIn heads rows capacity used
     → Ended n ps (tableIn heads rows capacity used) log capacity heads rows log used 0
 ended-start l h r = record { within = omega arith; long = l; places = h; size = refl; heads-long = r .heads-long; rows-long = r .rows-long; used-most = omega arith; few = r .few; same = refl }
 
 module _ {n : ℕ} {ps : List ℕ} {tb₀ : Table} {log₀ : List ℕ} {capacity : ℕ} {heads rows : List (List ℕ)} {log : List ℕ} {used i : ℕ} (e : Ended n ps tb₀ log₀ capacity heads rows log used i) where
-  pub ended-done : n ≤ i → Leaves (endEach ps tb₀ log₀) heads rows capacity used log
+  pub ended-done : n ≤ i → LeavesIn (endEach ps tb₀ log₀) heads rows capacity used log
   unfolding endEach
   ended-done h =
       let q : endEach ps tb₀ log₀ ≡ quietly (tableIn heads rows capacity used) log = rw (drop-done ps i (omega (arith, e .long))) at (e .same) in
@@ -98,7 +91,7 @@ module _ {n : ℕ} {ps : List ℕ} {tb₀ : Table} {log₀ : List ℕ} {capacity
     pub ended-few : length (held p (tableIn heads rows capacity used)) ≤ heldMost
     ended-few = e .few p (ended-place .0)
 
-    pub ended-ready : {h : Holding} → h ≡ taken p 0 (tableIn heads rows capacity used) → n ≤ transactionPlaces → tb₀ .used ≤ usedFirst → gives.Ready h
+    pub ended-ready : {h : Holding} → h ≡ taken p 0 (tableIn heads rows capacity used) → n ≤ transactionPlaces → tb₀ .used ≤ usedFirst → Ready h
     ended-ready t l u = rw t (ended-place, omega (arith, e .used-most, e .within))
 
     pub ended-back : {h : Holding} {q : ℕ} → h ≡ taken p 0 (tableIn heads rows capacity used) → q ≡ h .place → count (heldBy q) (map enlistmentIn rows) ≤ heldMost
@@ -106,7 +99,7 @@ module _ {n : ℕ} {ps : List ℕ} {tb₀ : Table} {log₀ : List ℕ} {capacity
     ended-back t q = rw (q, t, count-filter) ended-few
 
     pub ended-again : {h h′ : Holding} {heads′ rows′ : List (List ℕ)} {log′ : List ℕ} → h ≡ taken p 0 (tableIn heads rows capacity used)
-        → gives.Leaves (h .place) (endOf (h .place) (alone h) log) h′ log′ → h′ .used ≤ h .used + 358 → length log′ ≡ length log → length heads′ ≡ transactionPlaces → length rows′ ≡ enlistmentPlaces
+        → Leaves (h .place) (endOf (h .place) (alone h) log) h′ log′ → h′ .used ≤ h .used + 358 → length log′ ≡ length log → length heads′ ≡ transactionPlaces → length rows′ ≡ enlistmentPlaces
         → map transactionIn heads′ ≡ changeAt (h′ .place) (λ x. h′ .transaction) (map transactionIn heads) → map enlistmentIn rows′ ≡ refill (heldBy (h′ .place)) (h′ .enlistments) (map enlistmentIn rows)
         → Ended n ps tb₀ log₀ capacity heads′ rows′ log′ (h′ .used) (i + 1)
     unfolding endEach
@@ -125,11 +118,14 @@ module _ {n : ℕ} {ps : List ℕ} {tb₀ : Table} {log₀ : List ℕ} {capacity
         tb : Table
         tb = tableIn heads rows capacity used
 
-        l : gives.Leaves p (endOf p (alone (taken p 0 tb)) log) h′ log′
+        l : Leaves p (endOf p (alone (taken p 0 tb)) log) h′ log′
         l = rw t at m
 
+        -- the end of what was taken out, put back, is the end
         whole : endOf p tb log ≡ through (Within.within tb p) (endOf p (alone (taken p 0 tb)) log)
-        whole = end-within p tb log ended-place (length-map heads transactionIn ∙ e .heads-long) ended-few
+        whole =
+            ap (λ t. endOf p t log) (sym (taken-back p 0 tb (ended-place .0) (ended-place .1) ended-few))
+            ∙ end-through (passes-through tb p (record { low = ended-place .0; high = omega (arith, ended-place .1, length-map heads transactionIn ∙ e .heads-long) })) (alone (taken p 0 tb)) log (taken-fits p 0 tb (ended-place .0) (ended-place .1) ended-few)
 
         table : tableIn heads′ rows′ capacity (h′ .used) ≡ endOf p tb log .table
         table = put-within heads rows heads′ rows′ capacity used h′ (subst Placed (sym (l .place)) ended-place) he re ∙ ap (λ t. Within.within tb (h′ .place) t) (l .table) ∙ ap (λ q. Within.within tb q (endOf p (alone (taken p 0 tb)) log .table)) (l .place) ∙ sym (ap (λ o. o .table) whole)
@@ -158,7 +154,7 @@ finished-placed tb l p m =
     let i : IsPlace (tb .transactions) p = of-places (isFinished tb) noTransaction (tb .transactions) (of-sort (byIdentifier tb) _ m) .0 in
     (i .low, omega (arith, i .high, l))
 
-module _ (rm : Id) {heads rows : List (List ℕ)} (rows′ : List (List ℕ)) {capacity used : ℕ} (ready : Ready heads rows capacity used) {table done : Table} (t : table ≡ tableIn heads rows capacity used) (d : done ≡ doneTable rm table)
+module _ (rm : Id) {heads rows : List (List ℕ)} (rows′ : List (List ℕ)) {capacity used : ℕ} (ready : ReadyIn heads rows capacity used) {table done : Table} (t : table ≡ tableIn heads rows capacity used) (d : done ≡ doneTable rm table)
     (long : length rows′ ≡ enlistmentPlaces) (e : map enlistmentIn rows′ ≡ done .enlistments) where
   done-is : done ≡ doneTable rm (tableIn heads rows capacity used)
   done-is = d ∙ ap (doneTable rm) t
@@ -166,7 +162,7 @@ module _ (rm : Id) {heads rows : List (List ℕ)} (rows′ : List (List ℕ)) {c
   done-table : tableIn heads rows′ capacity used ≡ doneTable rm (tableIn heads rows capacity used)
   done-table = ap (λ es. record { transactions = map transactionIn heads; enlistments = es; capacity = capacity; used = used }) (e ∙ ap (λ u. u .enlistments) done-is)
 
-  pub done-ready : Ready heads rows′ capacity used
+  pub done-ready : ReadyIn heads rows′ capacity used
   done-ready = record { heads-long = ready .heads-long; rows-long = long; used-first = ready .used-first; few = subst Few (sym done-table) (done-few rm (tableIn heads rows capacity used) (ready .few)) }
 
   module _ {o : Order} (q : o ≡ orderOf (finished done)) (few : o .count ≤ transactionPlaces) where
@@ -176,8 +172,8 @@ module _ (rm : Id) {heads rows : List (List ℕ)} (rows′ : List (List ℕ)) {c
     pub done-placed : Each Placed (take (o .count) (o .items))
     done-placed = subst (Each Placed) (sym ordered) (finished-placed (doneTable rm (tableIn heads rows capacity used)) (length-map heads transactionIn ∙ ready .heads-long))
 
-    pub done-leaves : (log : List ℕ) {heads″ rows″ : List (List ℕ)} {u : ℕ} {out : List ℕ} → Leaves (endEach (take (o .count) (o .items)) (tableIn heads rows′ capacity used) log) heads″ rows″ capacity u out
-        → Leaves (reenlistedOf rm (tableIn heads rows capacity used) log) heads″ rows″ capacity u out
+    pub done-leaves : (log : List ℕ) {heads″ rows″ : List (List ℕ)} {u : ℕ} {out : List ℕ} → LeavesIn (endEach (take (o .count) (o .items)) (tableIn heads rows′ capacity used) log) heads″ rows″ capacity u out
+        → LeavesIn (reenlistedOf rm (tableIn heads rows capacity used) log) heads″ rows″ capacity u out
     unfolding reenlistedOf
     done-leaves log l = rw (ordered, done-table) at l
 

@@ -17,14 +17,14 @@ Few tb = (p : ℕ) → 1 ≤ p → length (held p tb) ≤ heldMost
 abbrev pub usedFirst : ℕ
 usedFirst = 100000
 
-pub record Ready (heads rows : List (List ℕ)) (capacity used : ℕ) : Type 0 where
+pub record ReadyIn (heads rows : List (List ℕ)) (capacity used : ℕ) : Type 0 where
   pub heads-long : length heads ≡ transactionPlaces
   pub rows-long : length rows ≡ enlistmentPlaces
   pub used-first : used ≤ usedFirst
   pub few : Few (tableIn heads rows capacity used)
 
 -- the memory holds the outcome's table, with this used length; and the log is as the outcome leaves it
-pub record Leaves (o : Outcome) (heads rows : List (List ℕ)) (capacity used : ℕ) (after : List ℕ) : Type 0 where
+pub record LeavesIn (o : Outcome) (heads rows : List (List ℕ)) (capacity used : ℕ) (after : List ℕ) : Type 0 where
   pub heads-long : length heads ≡ transactionPlaces
   pub rows-long : length rows ≡ enlistmentPlaces
   pub table : tableIn heads rows capacity used ≡ o .table

@@ -1,7 +1,7 @@
 -- The contract of a step determines its answer and the log: two that meet it are equal, since each equals the same definition. In lent memory it determines the bytes
 -- too, by the table that they mean.
 use Prim.Native.Nat.{ℕ}
-use mathlib.Core.Path.{_≡_, sym, ap, _∙_}
+use mathlib.Core.Path.{_≡_, sym, _∙_}
 use mathlib.Core.List.{List}
 use Rattle.rules.specs.declared.Table.{Table}
 use Rattle.rules.specs.declared.Event.{Event}

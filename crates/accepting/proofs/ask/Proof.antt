@@ -1,4 +1,4 @@
--- The tests are those of the definition.
+-- The state that is tested is that of its place, and the first two tests together say that it is over, so that the code takes the branch of the definition.
 use mathlib.Core.Path.{refl, ap, _∙_}
 use borrow.Author.Needs.{needs}
 use Rattle.rules.specs.Events.{toldAgain, askOf}

@@ -1,4 +1,4 @@
--- An ending sends no signal.
+-- An ending sends no signal, so that the empty row is the definition's.
 use mathlib.Core.Path.{ap, _∙_}
 use borrow.Author.Needs.{needs}
 use Rattle.rules.specs.Events.{follow}

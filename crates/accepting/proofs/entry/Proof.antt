@@ -1,4 +1,4 @@
--- The new enlistment is that of the definition, whichever state it stands in.
+-- The code asks what the definition asks, whether phase zero is under way, and in both cases fills in the same fields.
 use mathlib.Core.Path.{sym, _∙_}
 use borrow.Author.Needs.{needs}
 use Rattle.rules.specs.Events.{newEnlistment}

@@ -1,4 +1,4 @@
--- Each case is that of the definition.
+-- The definition, too, goes by which follow-up it is, and each case calls what it names there.
 use borrow.Author.Needs.{needs}
 use Rattle.rules.specs.Events.{follow}
 use Rattle.accepting.proofs.Laws.{quiet-gives}

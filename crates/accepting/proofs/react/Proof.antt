@@ -1,4 +1,4 @@
--- Each case is that of the definition.
+-- The definition, too, goes by which reaction it is: each case makes the change that it names there, and then follows it up.
 use borrow.Author.Needs.{needs}
 use Rattle.rules.specs.Events.{react}
 use Rattle.accepting.proofs.Laws.{quiet-gives, changed-ready, changed-follows}

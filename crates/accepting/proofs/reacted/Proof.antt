@@ -1,4 +1,4 @@
--- The reaction is that of the definition.
+-- The reaction that is looked up is that of the definition, so that what it does is what the definition does.
 use borrow.Author.Needs.{needs}
 use Rattle.accepting.proofs.reacted.Statement.{statement}
 use Rattle.accepting.proofs.reacted.Tie as tie

@@ -1,4 +1,4 @@
--- The test is that of the definition, by what is counted.
+-- One of phase zero is held if and only if their count is not 0, so that the code takes the branch of the definition.
 use mathlib.Core.Path.{sym, ap, _∙_}
 use mathlib.Core.Bool.{not}
 use lib.Dec.{eqb}

@@ -1,4 +1,4 @@
--- The pieces of the commit are those of the definition.
+-- The signals and the entries are read off the holding before it changes, and the record is put behind what is used of the log, as in the definition.
 use native.Mathlib.Omega.{arith}
 use mathlib.Core.Path.{sym, ap}
 use borrow.Author.Needs.{needs}

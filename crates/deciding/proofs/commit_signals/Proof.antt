@@ -1,4 +1,4 @@
--- The signals are those of the definition.
+-- The definition speaks to those that are prepared and then to the application, which is what the call is asked for.
 use borrow.Author.Needs.{needs}
 use Rattle.rules.specs.Events.{commitSignals}
 use Rattle.deciding.proofs.commit_signals.Statement.{statement}

@@ -1,4 +1,4 @@
--- Signals and table are those of the definition.
+-- The signals are read off the holding before it changes, and nothing is written, so that any log stays.
 use borrow.Author.Needs.{needs}
 use Rattle.endings.proofs.Laws.{going-gives}
 use Rattle.deciding.proofs.commit_unlogged.Statement.{statement}

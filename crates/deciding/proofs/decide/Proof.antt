@@ -1,4 +1,4 @@
--- The tests are those of the definition, by what is counted.
+-- A count is 0 if and only if none is such, so that the code takes the branch of the definition, in its order.
 use mathlib.Core.Path.{sym, ap, _∙_}
 use lib.Dec.{eqb}
 use borrow.Author.Needs.{needs}

@@ -1,4 +1,4 @@
--- The room that is needed is that of the definition.
+-- Alone it is the one that can be open, so that the open ones are counted by one test; and where more is used than there is, no room is left.
 use Prim.Native.Nat.{_+_, _*_, _-_}
 use native.Mathlib.Omega.{arith}
 use mathlib.Core.Path.{sym}

@@ -1,4 +1,4 @@
--- The tests are those of the definition, by what is counted.
+-- None is held if the count is 0, and all are marked if as many are marked as are held, so that the code takes the branch of the definition.
 use mathlib.Core.Path.{sym, ap, _∙_}
 use mathlib.Core.Bool.{_&&_}
 use lib.Dec.{eqb}

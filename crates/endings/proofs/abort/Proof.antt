@@ -1,4 +1,4 @@
--- The signals are of the table as it was.
+-- The signals are read off the holding before it changes, and what ends is what the change leaves, as in the definition.
 use borrow.Author.Needs.{needs}
 use Rattle.rules.specs.Events.{abortOf}
 use Rattle.endings.proofs.Laws.{going-ready, going-leaves}

@@ -1,4 +1,4 @@
--- The tests are those of the definition.
+-- The code asks whether it is open, as the definition does: if so, the forget record of its identifier is put behind what is used of the log, and else the log stays.
 use native.Mathlib.Omega.{arith}
 use mathlib.Core.Path.{ap}
 use borrow.Author.Needs.{needs}

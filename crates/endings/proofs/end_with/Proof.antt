@@ -1,4 +1,4 @@
--- The ending, and one signal.
+-- The one signal stands for whatever the ending sends, in the definition too; table and log are those of the ending.
 use borrow.Author.Needs.{needs}
 use Rattle.endings.proofs.end_with.Statement.{statement}
 use Rattle.endings.proofs.end_with.Tie as tie

@@ -1,4 +1,4 @@
--- No signal is sent.
+-- The row of no signals is the empty row of the definition, and the holding is the one that was given.
 use borrow.Author.Needs.{needs}
 use Rattle.endings.proofs.quietly.Statement.{statement}
 use Rattle.endings.proofs.quietly.Tie as tie

@@ -6,7 +6,6 @@ use Rattle.rules.specs.Table.{numbered, held}
 use Rattle.rules.specs.Events.{reactionOf, react, reactedOf}
 use Rattle.rules.proofs.Local.{react-through}
 use Rattle.refusals.specs.Checking.{aboutOneChecks}
-use Rattle.holdings.specs.Holdings.{alone}
 use Rattle.holdings.proofs.Within.{passes-through}
 use Rattle.rows.specs.Memory.{tableIn}
 use Rattle.entering.proofs.Done.{silent-does}

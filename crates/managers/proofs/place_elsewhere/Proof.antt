@@ -1,4 +1,4 @@
--- The places are tested in their order.
+-- The places are tested in their order: as long as none was met that passes, the first place is among those that are left.
 use Prim.Native.Nat.{_-_}
 use borrow.Author.Needs.{needs}
 use Rattle.lists.proofs.Loops.{long, Sought, seek-start, seek-miss, seek-hit, seek-done}

@@ -1,4 +1,4 @@
--- Those that are told or Done stay.
+-- Where a test fails the conjunction is false, and the definition leaves the enlistment too.
 use mathlib.Core.Path.{sym, _∙_}
 use borrow.Author.Needs.{needs}
 use Rattle.managers.proofs.told_again.Statement.{statement}

@@ -1,4 +1,4 @@
--- The tests are those of the definition, in its order.
+-- The code asks what the definition asks, whether it hears an abort and then whether it is prepared and lost, in the same order, so that each case computes to the same.
 use mathlib.Core.Path.{sym, _∙_}
 use borrow.Author.Needs.{needs}
 use Rattle.rules.specs.Events.{abortedOf}

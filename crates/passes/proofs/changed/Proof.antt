@@ -1,4 +1,4 @@
--- Each case calls what its definition names.
+-- The definition, too, goes by which change it is, and each case calls what is proved to make the change that it names there.
 use borrow.Author.Needs.{needs}
 use Rattle.passes.proofs.changed.Statement.{statement}
 use Rattle.passes.proofs.changed.Tie as tie

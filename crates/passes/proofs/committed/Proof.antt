@@ -1,4 +1,4 @@
--- The tests are those of the definition, in its order.
+-- The code asks what the definition asks, whether it is prepared and then whether it is prepared and lost, in the same order, so that each case computes to the same.
 use borrow.Author.Needs.{needs}
 use Rattle.rules.specs.Events.{committedOf}
 use Rattle.passes.proofs.committed.Statement.{statement}
