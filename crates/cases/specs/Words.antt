@@ -11,7 +11,6 @@ use Rattle.rules.specs.declared.Act.the-variants as act
 use Rattle.rules.specs.declared.Kind.{Kind}
 use Rattle.rules.specs.declared.Mark.{Mark}
 use Rattle.rules.specs.declared.Vote.{Vote}
-use Rattle.rules.specs.declared.Reply.{Reply}
 use Rattle.rules.specs.declared.Name.{Name}
 use Rattle.rules.specs.declared.Signal.{Signal}
 use Rattle.cases.specs.Case.{Call, step, Line, Case}
@@ -37,9 +36,6 @@ rollback t = step (event act.Rollback t 0)
 
 abbrev pub vote : ℕ → Vote → Call
 vote n v = step (event (act.Vote n v) 0 0)
-
-abbrev pub sp : ℕ → Reply → Call
-sp n r = step (event (act.Reply n r) 0 0)
 
 abbrev pub ack : ℕ → Call
 ack n = step (event (act.Ack n) 0 0)

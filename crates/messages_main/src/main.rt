@@ -82,7 +82,7 @@ fn print_number(name: &[u8], n: u64) {
     io::print_decimal(1, n);
 }
 
-// Many short functions, here and below: what a function costs to prove grows faster than the calls in it.
+// Short functions, here and below: a long one is slower to prove than its parts.
 fn print_header(m: Message) {
     print_number(b" master ", m.master as u64);
     print_field(b" connection ", m.connection);
