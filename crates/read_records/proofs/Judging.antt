@@ -1,7 +1,7 @@
 -- Reading from place to place: what is left to read, judged with the records that are open so far, gives the whole.
 use Prim.Native.Nat.{ℕ, _+_, _≤_, _<_}
 use native.Mathlib.Omega.{arith}
-use mathlib.Core.Path.{_≡_, refl, sym, _∙_}
+use mathlib.Core.Path.{_≡_, refl, sym, _∙_, ap}
 use mathlib.Core.Bool.{Bool, true, false, not, _&&_, or-false, or-true}
 use mathlib.Core.List.{List, [], _∷_, append-nil}
 use lib.Dec.{eqb, leb}
@@ -12,7 +12,7 @@ use Rattle.lists.proofs.Tests.{by-test, no-clash, true-and, length-filter}
 use Rattle.rules.specs.Sizes.{transactionPlaces, enlistmentPlaces, headerSize}
 use Rattle.rules.specs.Identifiers.{Id, isZero}
 use Rattle.rules.specs.Log.{Entry, Record, scan, behind, beginsNone}
-use Rattle.rules.specs.Restart.{Open, isOpenAs, entriesOpen, afterRecord, openAfter, ascendFrom, sameEntryManager, isFitting, allFitting}
+use Rattle.rules.specs.Restart.{Open, isOpenAs, entriesOpen, afterRecord, openAfter, ascendFrom, sameEntryManager, isFitting, allFitting, usedOf, isDamaged}
 use Rattle.rules.proofs.Restarts.{entries-append}
 use Rattle.log_reader.specs.Reading.{identifierAt, entriesAt, isCommitAt, recordAt, wholeAt, noneAt}
 use Rattle.log_reader.proofs.Scanning.{rest-length, scan-next, behind-next, whole-within, scan-end, behind-end, none-is}
@@ -21,7 +21,7 @@ use Rattle.open_records.specs.Opening.{startsOf, opensOf, noneOpen, openBehind}
 use Rattle.open_records.proofs.Rows.{opens-long}
 use Rattle.open_records.proofs.Following.{Long, behind-long, behind-opens}
 use Rattle.read_records.specs.declared.Readings.{Readings}
-use Rattle.read_records.specs.Readback.{bodyOf, Read}
+use Rattle.read_records.specs.Readback.{bodyOf, openFrom, damagedReadings, Read}
 
 -- ── how many are open ───────────────────────────────────────────────────────────────────────────────────────────
 
@@ -86,16 +86,20 @@ pub record Reading (log : List ℕ) (stored : ℕ) (rs : OpenRecords) (p : ℕ) 
   pub few : Few (opensOf log rs)
   pub fitting : allFitting [] (scan 0 (bodyOf log stored)) ≡ allFitting (opensOf log rs) (scan 0 (drop p (take stored log)))
   pub opens : openAfter [] (scan 0 (bodyOf log stored)) ≡ openAfter (opensOf log rs) (scan 0 (drop p (take stored log)))
+  pub places : openFrom log stored noneOpen headerSize (scan 0 (bodyOf log stored)) ≡ openFrom log stored rs p (scan 0 (drop p (take stored log)))
   pub behind-all : behind 0 (bodyOf log stored) ≡ behind 0 (drop p (take stored log))
 
 module _ (log : List ℕ) (stored : ℕ) (fits : stored ≤ length log) where
   pub reading-start : headerSize ≤ stored → Reading log stored noneOpen headerSize
   unfolding opensOf
-  reading-start h = record { low = omega arith; within = h; long = refl; few = few-none; fitting = refl; opens = refl; behind-all = refl }
+  reading-start h = record { low = omega arith; within = h; long = refl; few = few-none; fitting = refl; opens = refl; places = refl; behind-all = refl }
+
+  damaged-is : {x : Readings} → x ≡ damagedReadings → isDamaged (bodyOf log stored) ≡ true → Read log stored x
+  damaged-is {x} e d = record { gives = rw d e; else = λ c. no-clash (x .damaged) (ap (λ y. y .damaged) e) c }
 
   module _ {rs : OpenRecords} {p : ℕ} (r : Reading log stored rs p) where
     pub reading-again : {n : ℕ} → wholeAt log stored p ≡ n → 0 < n → isFitting (opensOf log rs) (recordAt log p) ≡ true → Reading log stored (openBehind log rs p) (p + n)
-    unfolding allFitting openAfter
+    unfolding allFitting openAfter openFrom
     reading-again {n} e z f =
         let next : scan 0 (drop p (take stored log)) ≡ recordAt log p ∷ scan 0 (drop (p + n) (take stored log)) = scan-next log stored fits p n e z in
         let after : opensOf log (openBehind log rs p) ≡ afterRecord (opensOf log rs) (recordAt log p) = behind-opens log rs p (r .long) (room-for log rs p f) in
@@ -106,29 +110,39 @@ module _ (log : List ℕ) (stored : ℕ) (fits : stored ≤ length log) where
           few = rw after (few-after (opensOf log rs) (recordAt log p) (r .few) f);
           fitting = rw (after) (rw (next, f) at (r .fitting));
           opens = rw (after) (rw next at (r .opens));
+          places = r .places ∙ ap (openFrom log stored rs p) next ∙ ap (λ m. openFrom log stored (openBehind log rs p) (p + m) (scan 0 (drop (p + n) (take stored log)))) e;
           behind-all = r .behind-all ∙ behind-next log stored fits p n e z;
         }
 
-    pub reading-unfit : {n : ℕ} {x : Readings} → wholeAt log stored p ≡ n → 0 < n → isFitting (opensOf log rs) (recordAt log p) ≡ false → x .damaged ≡ true → Read log stored x
+    pub reading-unfit : {n : ℕ} {x : Readings} → wholeAt log stored p ≡ n → 0 < n → isFitting (opensOf log rs) (recordAt log p) ≡ false → x ≡ damagedReadings → Read log stored x
     unfolding allFitting
     reading-unfit {n} {x} e z f d =
         let unfit : allFitting [] (scan 0 (bodyOf log stored)) ≡ false = rw (scan-next log stored fits p n e z, f) at (r .fitting) in
-        record { damage = d ∙ rw unfit (sym (or-true (beginsNone (behind 0 (bodyOf log stored))))); else = λ c. no-clash (x .damaged) d c }
+        damaged-is d (rw unfit (or-true (beginsNone (behind 0 (bodyOf log stored)))))
 
-    pub reading-done : {b : Bool} → wholeAt log stored p ≡ 0 → b ≡ noneAt log stored p → Read log stored (record { damaged = b; used = p; records = rs })
-    unfolding allFitting openAfter
-    reading-done {b} e d =
-        let over : scan 0 (drop p (take stored log)) ≡ [] = scan-end log stored fits p (r .within) e in
-        let fit : allFitting [] (scan 0 (bodyOf log stored)) ≡ true = rw over at (r .fitting) in
-        let rest : behind 0 (bodyOf log stored) ≡ drop p (take stored log) = r .behind-all ∙ behind-end log stored fits p (r .within) e in
-        record {
-          damage = d ∙ none-is log stored fits p (r .within) ∙ rw (fit, rest) (sym (or-false (beginsNone (drop p (take stored log)))));
-          else = λ c.
-              record {
-                used = rw rest (omega (arith, rest-length log stored fits headerSize, rest-length log stored fits p, r .low, r .within));
-                within = r .within;
-                opens = sym (rw over at (r .opens));
-                few = r .few .transactions;
-                few-entries = r .few .entries;
-              };
-        }
+    -- no whole record stands there
+    module _ (e : wholeAt log stored p ≡ 0) where
+      over : scan 0 (drop p (take stored log)) ≡ []
+      over = scan-end log stored fits p (r .within) e
+
+      rest : behind 0 (bodyOf log stored) ≡ drop p (take stored log)
+      rest = r .behind-all ∙ behind-end log stored fits p (r .within) e
+
+      judged : isDamaged (bodyOf log stored) ≡ noneAt log stored p
+      unfolding allFitting
+      judged =
+          let fit : allFitting [] (scan 0 (bodyOf log stored)) ≡ true = rw over at (r .fitting) in
+          rw (fit, rest, none-is log stored fits p (r .within)) (or-false (beginsNone (drop p (take stored log))))
+
+      pub reading-none : {x : Readings} → noneAt log stored p ≡ true → x ≡ damagedReadings → Read log stored x
+      reading-none d g = damaged-is g (judged ∙ d)
+
+      pub reading-done : noneAt log stored p ≡ false → Read log stored (record { damaged = false; used = p; records = rs })
+      unfolding openAfter openFrom
+      reading-done d =
+          let u : p ≡ usedOf (bodyOf log stored) = rw rest (omega (arith, rest-length log stored fits headerSize, rest-length log stored fits p, r .low, r .within)) in
+          let o : openFrom log stored noneOpen headerSize (scan 0 (bodyOf log stored)) ≡ rs = rw over at (r .places) in
+          record {
+            gives = rw (judged ∙ d, o, ← u);
+            else = λ c. record { within = r .within; opens = sym (rw over at (r .opens)); few = r .few .transactions; few-entries = r .few .entries };
+          }

@@ -1,8 +1,9 @@
 // Reading the records of a log, from behind its header on.
 
+ghost use mathlib.Core.Path.{_≡_};
 ghost use Prim.Native.Nat.{_≤_};
 ghost use Rattle.rules.specs.Sizes.{headerSize};
-ghost use Rattle.read_records.specs.Readback.{Read};
+ghost use Rattle.read_records.specs.Readback.{damagedReadings, Read};
 use open_records::OpenRecords;
 use rules::sizes;
 
@@ -13,6 +14,17 @@ pub struct Readings {
     pub damaged: bool,
     pub used: usize,
     pub records: OpenRecords,
+}
+
+fn damaged() -> Readings
+    ensures { λ r. ⌜ r ≡ damagedReadings ⌝ }
+{
+    let records = open_records::none_open();
+    Readings {
+        damaged: true,
+        used: 0,
+        records: records,
+    }
 }
 
 // The whole records, up to the first that is torn or none at all, or that is not as it must be.
@@ -26,8 +38,11 @@ pub fn read_records(log: &[u8], stored: usize) -> Readings
         let size = log_reader::whole_at(log, stored, at);
         if size == 0 {
             let none = log_reader::none_at(log, stored, at);
+            if none {
+                return damaged();
+            }
             return Readings {
-                damaged: none,
+                damaged: false,
                 used: at,
                 records: records,
             };
@@ -38,11 +53,7 @@ pub fn read_records(log: &[u8], stored: usize) -> Readings
             records = next;
             at += size;
         } else {
-            return Readings {
-                damaged: true,
-                used: 0,
-                records: records,
-            };
+            return damaged();
         }
     }
 }

@@ -32,20 +32,26 @@ use Rattle.restart.specs.Answers.{refusedAs, doneWith}
 -- ── behind the header ───────────────────────────────────────────────────────────────────────────────────────────
 
 module _ {log : List ℕ} {stored : ℕ} {r : Readings} (read : Read log stored r) where
+  damage : r .damaged ≡ isDamaged (bodyOf log stored)
+  damage = rw (read .gives) (by-test (isDamaged (bodyOf log stored)) (λ t. rw t) (λ t. rw t))
+
+  used-is : isDamaged (bodyOf log stored) ≡ false → r .used ≡ usedOf (bodyOf log stored)
+  used-is t = rw (read .gives, t)
+
   pub answer-damaged : {x : Restarted} → r .damaged ≡ true → x ≡ refusedAs refusal.damagedLog → x ≡ restartedOf (readBack (bodyOf log stored) log)
   unfolding readBack
-  answer-damaged t e = rw (sym (read .damage) ∙ t) e
+  answer-damaged t e = rw (sym damage ∙ t) e
 
   module _ {n : ℕ} (t : r .damaged ≡ false) (owed : n ≡ length (startsOf (r .records))) where
     counted : r .used + forgetSize * n ≡ usedOf (bodyOf log stored) + forgetSize * length (openAfter [] (scan 0 (bodyOf log stored)))
     counted =
         let u = read .else t in
         let m : n ≡ length (openAfter [] (scan 0 (bodyOf log stored))) = owed ∙ sym (opens-long log (r .records)) ∙ ap length (u .opens) in
-        rw (← m, ← u .used)
+        rw (← m, ← used-is (sym damage ∙ t))
 
     pub answer-short : {x : Restarted} → ltb (length log) (r .used + forgetSize * n) ≡ true → x ≡ refusedAs refusal.logTooShort → x ≡ restartedOf (readBack (bodyOf log stored) log)
     unfolding readBack
-    answer-short s e = rw (sym (read .damage) ∙ t, sym (ap (ltb (length log)) counted) ∙ s) e
+    answer-short s e = rw (sym damage ∙ t, sym (ap (ltb (length log)) counted) ∙ s) e
 
     pub answer-done : {x : Restarted} {y : Table} → ltb (length log) (r .used + forgetSize * n) ≡ false
         → y ≡ enlistmentsPut (opensOf log (r .records)) (transactionsPut (opensOf log (r .records)) (emptyTable (length log) (r .used))) → x ≡ doneWith y
@@ -54,8 +60,8 @@ module _ {log : List ℕ} {stored : ℕ} {r : Readings} (read : Read log stored 
     answer-done {x} {y} s f e =
         let u = read .else t in
         let w : y ≡ tableOf (length log) (usedOf (bodyOf log stored)) (openAfter [] (scan 0 (bodyOf log stored))) =
-        rw (← u .used, ← u .opens) (f ∙ table-is (length log) (r .used) (opensOf log (r .records)) (u .few) (u .few-entries)) in
-        rw (sym (read .damage) ∙ t, sym (ap (ltb (length log)) counted) ∙ s, ← w) e
+        rw (← used-is (sym damage ∙ t), ← u .opens) (f ∙ table-is (length log) (r .used) (opensOf log (r .records)) (u .few) (u .few-entries)) in
+        rw (sym damage ∙ t, sym (ap (ltb (length log)) counted) ∙ s, ← w) e
 
 pub read-leaves : (body log : List ℕ) → readBack body log .log ≡ log
 unfolding readBack

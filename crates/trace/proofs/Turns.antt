@@ -12,9 +12,9 @@ use borrow.Author.Tests.{leb-true, leb-false}
 use Rattle.lists.proofs.Tests.{by-either, no-clash}
 use Rattle.trace_session.specs.declared.Session.{Session}
 use Rattle.trace.specs.Program.{Stand, afterBytes, written}
-use Rattle.trace_session.specs.Counts.{Writes, room}
+use Rattle.trace_session.specs.Counts.{room, flushedOf}
 use Rattle.trace_parts.specs.Puts.{outputMost}
-use Rattle.trace.specs.Sessions.{Stands, Fits, Takes, TakesAll, part}
+use Rattle.trace.specs.Sessions.{Stands, Fits, Takes, Writes, TakesAll, part}
 use Rattle.trace.proofs.Bytes.{after-parts, written-between}
 
 -- what `has_room` tells
@@ -74,6 +74,9 @@ pub record Running (heads₀ rows₀ : List (List ℕ)) (block log₀ line₀ ou
   pub within : s .taken ≤ length block
   pub log-long : length log ≡ length log₀
   pub same : (w : Stand) → Stands w s₀ heads₀ rows₀ log₀ line₀ output₀ → Stands (written (afterBytes w (part 0 (s .taken) block))) s heads rows log line output
+
+pub flushed-writes : {s r : Session} {b : Bool} → r ≡ flushedOf s b → Writes s r
+flushed-writes e = rw e (record { capacity = refl; used = refl; sound = refl; kept = refl; taken = refl; none = refl })
 
 write-stands : {w : Stand} {s r : Session} {heads rows : List (List ℕ)} {log line output : List ℕ} → Writes s r → Stands w s heads rows log line output → Stands (written w) r heads rows log line output
 write-stands p h =

@@ -56,6 +56,15 @@ pub record Takes (s : Session) (heads rows : List (List ℕ)) (block log line ou
   pub some : s .taken < length block → s .taken < r .taken
   pub same : (w : Stand) → Stands w s heads rows log line output → Stands (afterBytes w (part (s .taken) (r .taken) block)) r heads′ rows′ log′ line′ output′
 
+-- what waits is written; what the output takes of it, and says, is not ours to promise
+pub record Writes (s r : Session) : Type 0 where
+  pub capacity : r .capacity ≡ s .capacity
+  pub used : r .used ≡ s .used
+  pub sound : r .sound ≡ s .sound
+  pub kept : r .kept ≡ s .kept
+  pub taken : r .taken ≡ s .taken
+  pub none : r .waiting ≡ 0
+
 -- the whole block is taken and all that it has printed is written, unless the output fails
 pub record TakesAll (s : Session) (heads rows : List (List ℕ)) (block log line output : List ℕ) (r : Session) (heads′ rows′ : List (List ℕ)) (log′ line′ output′ : List ℕ) : Type 0 where
   pub fits : Fits r heads′ rows′ line′ output′

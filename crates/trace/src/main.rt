@@ -3,8 +3,9 @@
 ghost use mathlib.Core.Path.{_≡_};
 ghost use Prim.Native.Nat.{_≤_};
 ghost use lib.ListN.{length};
-ghost use Rattle.trace.specs.Sessions.{Fits, Ready, Answers, Takes, TakesAll, Finishes, Starts};
+ghost use Rattle.trace.specs.Sessions.{Fits, Ready, Answers, Takes, Writes, TakesAll, Finishes, Starts};
 use libc::STDIN_FILENO;
+use libc::STDOUT_FILENO;
 use trace_line::OUTPUT;
 use trace_session::KEPT;
 use trace_session::ROOM;
@@ -99,6 +100,16 @@ fn take_lines(
     s
 }
 
+// What waits is written.
+fn flush(s: Session, output: &[u8]) -> Session
+    requires { ⌜ s .waiting ≤ length (now output) ⌝ }
+    ensures { λ r. ⌜ Writes s r ⌝ }
+{
+    let n = s.waiting;
+    let writable = io::write_all(STDOUT_FILENO, &output[..n]);
+    trace_session::flushed(s, writable)
+}
+
 fn take_block(
     start: Session,
     heads: &mut [[u8; 17]; 32],
@@ -115,7 +126,7 @@ fn take_block(
     s.taken = 0;
     while s.taken < block.len() {
         let next = take_lines(s, heads, rows, block, log, line, output);
-        let after = trace_session::flush(next, output);
+        let after = flush(next, output);
         s = after;
         if s.writable {} else {
             return s;
@@ -178,7 +189,7 @@ fn main() {
         let n = io::count(got, &block);
         if n == 0 {
             let last = finish(s, &mut heads, &mut rows, &mut log, &line, &mut output);
-            trace_session::flush(last, &output);
+            flush(last, &output);
             return;
         }
         let next = take_block(

@@ -23,15 +23,21 @@ take-room zero l = let e : min (length l) 0 ≡ 0 = omega arith in rw e
 take-room (suc m) [] = take-nil (min 0 (suc m))
 take-room (suc m) (x ∷ xs) = let e : min (suc (length xs)) (suc m) ≡ suc (min (length xs) m) = omega arith in rw e (ap (_∷_ x) (take-room m xs))
 
-pub kept-more : {kept n r : ℕ} {before more after : List ℕ} → Puts (take n more) before kept r after → n ≡ min (length more) (lineKept - kept)
-    → kept ≤ lineKept → length before ≡ lineKept → Keeps kept before more r after
-kept-more {kept} {n} {r} {before} {more} {after} p e h l =
-    let s : length (take n more) ≡ n = simp length-take (omega arith) in
-    let k : length (take kept before) ≡ kept = simp length-take (omega arith) in
+pub keeps-room : {kept n r : ℕ} {before more after : List ℕ} → Puts (take n more) before kept r after → n ≡ min (length more) (lineKept - kept) → Keeps kept before more r after
+keeps-room {kept} {n} {more = more} p e =
     let a : take n more ≡ take (lineKept - kept) more = rw e (take-room (lineKept - kept) more) in
-    let b : length (take kept before) + (lineKept - kept) ≡ lineKept = omega arith in
-    record {
-      within = omega (arith, p .ends);
-      long = put-long p ∙ l;
-      same = put-taken p (omega arith) ∙ rw a (sym (rw b at (take-append-add (take kept before) more (lineKept - kept))));
-    }
+    record { puts = rw a at p }
+
+-- what is kept then is the line as it goes on, as far as a line is kept
+module _ {kept r : ℕ} {before more after : List ℕ} (k : Keeps kept before more r after) (h : kept ≤ lineKept) where
+  fit : kept + length (take (lineKept - kept) more) ≤ lineKept
+  fit = simp length-take (omega arith)
+
+  pub keeps-within : r ≤ lineKept
+  keeps-within = omega (arith, k .puts .ends, fit)
+
+  pub keeps-same : length before ≡ lineKept → take r after ≡ take lineKept (take kept before ++ more)
+  keeps-same l =
+      let e : length (take kept before) ≡ kept = simp length-take (omega arith) in
+      let b : length (take kept before) + (lineKept - kept) ≡ lineKept = omega arith in
+      put-taken (k .puts) (omega (arith, fit)) ∙ sym (rw b at (take-append-add (take kept before) more (lineKept - kept)))

@@ -5,8 +5,7 @@ ghost use Prim.Native.Nat.{_+_, _≤_, min};
 ghost use lib.Dec.{leb};
 ghost use lib.ListN.{length};
 ghost use Rattle.trace_parts.specs.Puts.{outputMost};
-ghost use Rattle.trace_session.specs.Counts.{lineKept, room, Keeps, Parts, Writes};
-use libc::STDOUT_FILENO;
+ghost use Rattle.trace_session.specs.Counts.{lineKept, room, Keeps, Parts, flushedOf};
 use rules::sizes;
 use trace_line::OUTPUT;
 
@@ -81,14 +80,12 @@ pub fn has_room(s: Session) -> bool
     s.waiting + OUTPUT <= ROOM
 }
 
-// What waits is written.
-pub fn flush(s: Session, output: &[u8]) -> Session
-    requires { ⌜ s .waiting ≤ length (now output) ⌝ }
-    ensures { λ r. ⌜ Writes s r ⌝ }
+// What waited is written, and the output has said whether it still takes any.
+pub fn flushed(s: Session, writable: bool) -> Session
+    ensures { λ r. ⌜ r ≡ flushedOf s writable ⌝ }
 {
-    let n = s.waiting;
     let mut after = s;
-    after.writable = io::write_all(STDOUT_FILENO, &output[..n]);
     after.waiting = 0;
+    after.writable = writable;
     after
 }

@@ -2,7 +2,7 @@
 use native.Mathlib.Omega.{arith}
 use lib.ListN.{length-take}
 use borrow.Author.Needs.{needs}
-use Rattle.trace_session.proofs.Memory.{kept-more}
+use Rattle.trace_session.proofs.Memory.{keeps-room}
 use Rattle.trace_session.proofs.keep.Statement.{statement}
 use Rattle.trace_session.proofs.keep.Tie as tie
 
@@ -15,6 +15,4 @@ keep-spec =
     (λ c. simp length-take (omega arith))
     (λ c κs. simp length-take (omega arith))
     (λ c. search needs)
-    (λ c.
-    let s = c .before .before .before .before .before .before .before .before in
-    kept-more (c .before .before .put-text .ensures) (c .before .before .before .before .before .least .ensures) (s .pre .0) (s .pre .1)))
+    (λ c. keeps-room (c .before .before .put-text .ensures) (c .before .before .before .before .before .least .ensures)))
