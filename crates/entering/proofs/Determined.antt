@@ -1,5 +1,5 @@
--- The contract of a step in lent memory determines its answer, the memory and the log: answer and log each equal the definition's, and the memory is of bytes that mean its table.
--- A contract of one event speaks of every event that its checks refuse and its outcome follows from; the event itself is such a one, on any log of the table's capacity.
+-- The contract of a step in lent memory determines its answer, the memory's bytes and the log: each equals the definition's, and the bytes are those that mean its table.
+-- `Does` promises this of every event with these checks and this outcome. Begin and Enlist are themselves such events, on a log of the table's capacity, so that the promise is not empty.
 use Prim.Native.Nat.{ℕ}
 use mathlib.Core.Path.{_≡_, refl, sym, _∙_}
 use mathlib.Core.List.{List}
@@ -33,7 +33,7 @@ module _ {heads rows heads′ rows′ : List (List ℕ)} {after later : List ℕ
       → Does cs o tb log r heads rows after → Does cs o tb log s heads′ rows′ later → (r ≡ s) × (heads ≡ heads′) × (rows ≡ rows′) × (after ≡ later)
   does-determined tb e log cs c d p q = step-in-determined tb e log (p e c d) (q e c d)
 
--- Begin and Enlist leave the log alone
+-- these two take no log, and promise of any that it is left alone
 module _ (heads rows : List (List ℕ)) (capacity used : ℕ) (id : Id) (fine : Fine heads rows capacity used) where
   abbrev tb : Table
   tb = tableIn heads rows capacity used

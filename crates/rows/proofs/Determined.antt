@@ -44,14 +44,14 @@ each-again : {A : Type 0} {n : ℕ} (f : List ℕ → A) (g : A → List ℕ) �
 each-again f g h [] bs = refl
 each-again f g h (l ∷ ls) bs = λ i. h l (each-head bs) i ∷ each-again f g h ls (each-rest bs) i
 
--- what `head_of` gives, and what heads are when they were left to mean these transactions
+-- a head that means this transaction, as `head_of` gives it; and heads that mean these, as they are left where one was stored
 pub head-determined : {x : Transaction} {head head′ : List ℕ} → Bytes 17 head → Bytes 17 head′ → transactionIn head ≡ x → transactionIn head′ ≡ x → head ≡ head′
 head-determined {head = head} {head′} b b′ p q = sym (head-again head b) ∙ ap headOf (p ∙ sym q) ∙ head-again head′ b′
 
 pub heads-determined : {l : List Transaction} {heads heads′ : List (List ℕ)} → Each (Bytes 17) heads → Each (Bytes 17) heads′ → map transactionIn heads ≡ l → map transactionIn heads′ ≡ l → heads ≡ heads′
 heads-determined {heads = heads} {heads′} b b′ p q = sym (each-again transactionIn headOf head-again heads b) ∙ ap (map headOf) (p ∙ sym q) ∙ each-again transactionIn headOf head-again heads′ b′
 
--- the same of `row_of`, and of rows
+-- the same of enlistments, by `row_of` and in rows
 pub row-determined : {e : Enlistment} {row row′ : List ℕ} → Bytes 24 row → Bytes 24 row′ → enlistmentIn row ≡ e → enlistmentIn row′ ≡ e → row ≡ row′
 row-determined {row = row} {row′} b b′ p q = sym (row-again row b) ∙ ap rowOf (p ∙ sym q) ∙ row-again row′ b′
 

@@ -1,5 +1,5 @@
--- Two answers that equal the same value are equal, and so of each contract that is an equation two answers coincide; lent memory that the contract equals to a value is
--- one more such answer. In memory that means a table the bytes are determined too: `step-in-determined`, beside the contract that `step_in` has with other functions.
+-- Two answers that equal the same value are equal: so the results of a contract that is an equation coincide, and lent memory that it gives is one more such result.
+-- The contract of `step_in` says what the memory means; that it determines the bytes is `step-in-determined` in entering/proofs, beside that contract.
 use Prim.Native.Nat.{ℕ}
 use mathlib.Core.Path.{_≡_, sym, _∙_}
 use mathlib.Core.Bool.{Bool}
@@ -13,6 +13,10 @@ use Rattle.rules.specs.Step.{IsStep}
 
 pub equal-determined : {A : Type 0} {x r s : A} → r ≡ x → s ≡ x → r ≡ s
 equal-determined p q = p ∙ sym q
+
+-- what the contract says besides, a bound that a caller needs, takes nothing away
+pub besides-determined : {A B C : Type 0} {x r s : A} → (r ≡ x) × B → (s ≡ x) × C → r ≡ s
+besides-determined (p, _) (q, _) = equal-determined p q
 
 -- an answer, and lent memory
 pub lent-determined : {A B : Type 0} {x r s : A} {y after later : B} → (r ≡ x) × (after ≡ y) → (s ≡ x) × (later ≡ y) → (r ≡ s) × (after ≡ later)
