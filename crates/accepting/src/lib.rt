@@ -6,10 +6,9 @@ ghost use mathlib.Core.List.{List, [], _∷_};
 ghost use Prim.Native.Nat.{ℕ};
 ghost use Rattle.rules.specs.declared.FollowUp.the-variants as then;
 ghost use Rattle.rules.specs.declared.Name.the-variants as name;
-ghost use Rattle.rules.specs.Table.{transactionAt};
 ghost use Rattle.rules.specs.Signals.{signal, rowOf};
 ghost use Rattle.rules.specs.Events.{zeroAtOnce, newEnlistment, reactionOf, follow, react, askOf};
-ghost use Rattle.holdings.specs.Holdings.{alone};
+ghost use Rattle.holdings.specs.Holdings.{alone, Placed};
 ghost use Rattle.endings.specs.Gives.{Gives, Ready};
 use endings::Accepted;
 use holdings::Holding;
@@ -154,7 +153,7 @@ pub fn reacted(n: u32, act: Act, kind: u8, state: u8, h: Holding, log: &mut [u8]
 }
 
 pub fn ask(h: Holding, rm: [u8; 16]) -> Accepted
-    requires { ⌜ transactionAt (h .place) (alone h) ≡ h .transaction ⌝ }
+    requires { ⌜ Placed (h .place) ⌝ }
     ensures { λ r. ⌜ ((log : List ℕ) → Gives (h .place) (askOf (h .place) rm (alone h) log) r log) ⌝ }
 {
     let e = managers::undone(h, rm);

@@ -1,3 +1,4 @@
+pub mod Determined
 pub mod Taking
 pub mod Putting
 pub mod Within

@@ -44,14 +44,20 @@ each-again : {A : Type 0} {n : ℕ} (f : List ℕ → A) (g : A → List ℕ) �
 each-again f g h [] bs = refl
 each-again f g h (l ∷ ls) bs = λ i. h l (each-head bs) i ∷ each-again f g h ls (each-rest bs) i
 
-module _ {heads heads′ : List (List ℕ)} where
-  pub heads-determined : Each (Bytes 17) heads → Each (Bytes 17) heads′ → map transactionIn heads ≡ map transactionIn heads′ → heads ≡ heads′
-  heads-determined b b′ e = sym (each-again transactionIn headOf head-again heads b) ∙ ap (map headOf) e ∙ each-again transactionIn headOf head-again heads′ b′
+-- a head that means this transaction, as `head_of` gives it; and heads that mean these, as they are left where one was stored
+pub head-determined : {x : Transaction} {head head′ : List ℕ} → Bytes 17 head → Bytes 17 head′ → transactionIn head ≡ x → transactionIn head′ ≡ x → head ≡ head′
+head-determined {head = head} {head′} b b′ p q = sym (head-again head b) ∙ ap headOf (p ∙ sym q) ∙ head-again head′ b′
 
-module _ {rows rows′ : List (List ℕ)} where
-  pub rows-determined : Each (Bytes 24) rows → Each (Bytes 24) rows′ → map enlistmentIn rows ≡ map enlistmentIn rows′ → rows ≡ rows′
-  rows-determined b b′ e = sym (each-again enlistmentIn rowOf row-again rows b) ∙ ap (map rowOf) e ∙ each-again enlistmentIn rowOf row-again rows′ b′
+pub heads-determined : {l : List Transaction} {heads heads′ : List (List ℕ)} → Each (Bytes 17) heads → Each (Bytes 17) heads′ → map transactionIn heads ≡ l → map transactionIn heads′ ≡ l → heads ≡ heads′
+heads-determined {heads = heads} {heads′} b b′ p q = sym (each-again transactionIn headOf head-again heads b) ∙ ap (map headOf) (p ∙ sym q) ∙ each-again transactionIn headOf head-again heads′ b′
+
+-- the same of enlistments, by `row_of` and in rows
+pub row-determined : {e : Enlistment} {row row′ : List ℕ} → Bytes 24 row → Bytes 24 row′ → enlistmentIn row ≡ e → enlistmentIn row′ ≡ e → row ≡ row′
+row-determined {row = row} {row′} b b′ p q = sym (row-again row b) ∙ ap rowOf (p ∙ sym q) ∙ row-again row′ b′
+
+pub rows-determined : {l : List Enlistment} {rows rows′ : List (List ℕ)} → Each (Bytes 24) rows → Each (Bytes 24) rows′ → map enlistmentIn rows ≡ l → map enlistmentIn rows′ ≡ l → rows ≡ rows′
+rows-determined {rows = rows} {rows′} b b′ p q = sym (each-again enlistmentIn rowOf row-again rows b) ∙ ap (map rowOf) (p ∙ sym q) ∙ each-again enlistmentIn rowOf row-again rows′ b′
 
 pub table-determined : {heads rows heads′ rows′ : List (List ℕ)} {capacity used capacity′ used′ : ℕ} → OfBytes heads rows → OfBytes heads′ rows′
     → tableIn heads rows capacity used ≡ tableIn heads′ rows′ capacity′ used′ → (heads ≡ heads′) × (rows ≡ rows′)
-table-determined b b′ e = (heads-determined (b .each-head) (b′ .each-head) (ap (λ t. t .transactions) e), rows-determined (b .each-row) (b′ .each-row) (ap (λ t. t .enlistments) e))
+table-determined b b′ e = (heads-determined (b .each-head) (b′ .each-head) (ap (λ t. t .transactions) e) refl, rows-determined (b .each-row) (b′ .each-row) (ap (λ t. t .enlistments) e) refl)

@@ -1,23 +1,34 @@
--- The contract of a step determines its answer and the log: two that meet it are equal, since each equals the same definition. In lent memory it determines the bytes
--- too, by the table that they mean.
+-- Two answers that equal the same value are equal: so the results of a contract that is an equation coincide, and lent memory that it gives is one more such result.
+-- The contract of `step_in` says what the memory means; that it determines the bytes is `step-in-determined` in entering/proofs, beside that contract.
 use Prim.Native.Nat.{ℕ}
 use mathlib.Core.Path.{_≡_, sym, _∙_}
+use mathlib.Core.Bool.{Bool}
 use mathlib.Core.List.{List}
 use Rattle.rules.specs.declared.Table.{Table}
 use Rattle.rules.specs.declared.Event.{Event}
 use Rattle.rules.specs.declared.Stepped.{Stepped}
+use Rattle.rules.specs.Table.{freshOf}
+use Rattle.rules.specs.Sound.{soundOf}
 use Rattle.rules.specs.Step.{IsStep}
-use Rattle.rows.specs.Memory.{tableIn, OfBytes}
-use Rattle.rows.proofs.Determined.{table-determined}
-use Rattle.entering.specs.declared.Answer.{Answer}
-use Rattle.entering.specs.StepIn.{IsStepIn}
+
+pub equal-determined : {A : Type 0} {x r s : A} → r ≡ x → s ≡ x → r ≡ s
+equal-determined p q = p ∙ sym q
+
+-- what the contract says besides, a bound that a caller needs, takes nothing away
+pub besides-determined : {A B C : Type 0} {x r s : A} → (r ≡ x) × B → (s ≡ x) × C → r ≡ s
+besides-determined (p, _) (q, _) = equal-determined p q
+
+-- an answer, and lent memory
+pub lent-determined : {A B : Type 0} {x r s : A} {y after later : B} → (r ≡ x) × (after ≡ y) → (s ≡ x) × (later ≡ y) → (r ≡ s) × (after ≡ later)
+lent-determined (p, q) (u, v) = (equal-determined p u, equal-determined q v)
+
+-- ── what a host calls ───────────────────────────────────────────────────────────────────────────────────────────
+
+pub fresh-determined : (capacity : ℕ) {r s : Table} → r ≡ freshOf capacity → s ≡ freshOf capacity → r ≡ s
+fresh-determined capacity = equal-determined
+
+pub is-sound-determined : (tb : Table) {r s : Bool} → r ≡ soundOf tb → s ≡ soundOf tb → r ≡ s
+is-sound-determined tb = equal-determined
 
 pub step-determined : (tb : Table) (e : Event) (log : List ℕ) {r s : Stepped} {after later : List ℕ} → IsStep tb e log r after → IsStep tb e log s later → (r ≡ s) × (after ≡ later)
-step-determined tb e log (p, q) (u, v) = (p ∙ sym u, q ∙ sym v)
-
-pub step-in-determined : (tb : Table) (e : Event) (log : List ℕ) {r s : Answer} {heads rows heads′ rows′ : List (List ℕ)} {after later : List ℕ} → OfBytes heads rows → OfBytes heads′ rows′
-    → IsStepIn tb e log r heads rows after → IsStepIn tb e log s heads′ rows′ later → (r ≡ s) × (heads ≡ heads′) × (rows ≡ rows′) × (after ≡ later)
-step-in-determined tb e log {r} {s} {heads} {rows} {heads′} {rows′} b b′ p q =
-    let same : tableIn heads rows (tb .capacity) (r .used) ≡ tableIn heads′ rows′ (tb .capacity) (s .used) = p .table ∙ sym (q .table) in
-    let (h, w) = table-determined b b′ same in
-    ((λ i. record { signals = (p .signals ∙ sym (q .signals)) i; used = same i .used; refusal = (p .refusal ∙ sym (q .refusal)) i }), h, w, p .log ∙ sym (q .log))
+step-determined tb e log = lent-determined

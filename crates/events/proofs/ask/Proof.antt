@@ -7,7 +7,6 @@ use Rattle.rules.specs.Table.{placeNamed}
 use Rattle.rules.specs.Events.{askOf}
 use Rattle.rules.proofs.Local.{ask-through}
 use Rattle.refusals.specs.Checking.{askChecks}
-use Rattle.holdings.proofs.Laws.{alone-at}
 use Rattle.holdings.proofs.Within.{passes-through}
 use Rattle.rows.specs.Memory.{tableIn}
 use Rattle.entering.proofs.Done.{silent-does}
@@ -39,7 +38,7 @@ ask-spec =
     let tb = tableIn (a .heads .now) (a .rows .now) (a .capacity) (a .used) in
     let k = known-takes (a .heads .now) (a .rows .now) (a .capacity) (a .used) (a .id) (a .rm) (s .pre) (e .place-named .ensures) (c .before .before .before .before .before .before .before .before .if1 .left) in
     let out = c .before .before .before .before .before .take-out .ensures (a .capacity) in
-    alone-at (c .before .before .before .before .before .take-out .result) (takes-ready (a .heads .now) (a .rows .now) (a .capacity) (a .used) k out .0))
+    takes-ready (a .heads .now) (a .rows .now) (a .capacity) (a .used) k out .0)
     (λ c κs. let e = c .before .before .before .before .before .before .before .before .before .before .before .before in
     let s = e .before .before in
     let a = s .args in
