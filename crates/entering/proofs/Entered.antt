@@ -19,13 +19,6 @@ use Rattle.rules.specs.Table.{placeNamed, stateAt, isFree, isVacant}
 use Rattle.rules.specs.Events.{beginOf, newEnlistment, enlistOf}
 use Rattle.rows.specs.Memory.{transactionIn, enlistmentIn, tableIn}
 
-pub none-place : {A : Type 0} (f : A → Bool) (xs : List A) → none f xs ≡ eqb (placeOf f xs) 0
-none-place f xs = rw (any-place f xs) (twice _)
-  where
-    twice : (b : Bool) → not (not b) ≡ b
-    twice true = refl
-    twice false = refl
-
 module _ (heads rows : List (List ℕ)) (capacity used : ℕ) (id : Id) (log : List ℕ) where
   abbrev before : Table
   before = tableIn heads rows capacity used

@@ -1,9 +1,13 @@
 -- Of a sound table and a log of its capacity, the first two checks don't apply: what refuses an event are the checks that its own function makes.
 use Prim.Native.Nat.{ℕ}
-use mathlib.Core.Path.{_≡_, _∙_}
-use mathlib.Core.Bool.{true}
-use mathlib.Core.List.{List}
-use borrow.Author.Tests.{eq-eqb}
+use mathlib.Core.Path.{_≡_, refl, sym, _∙_, ap}
+use mathlib.Core.Bool.{Bool, true, false}
+use mathlib.Core.List.{List, map}
+use lib.Dec.{eqb}
+use lib.ListN.{getD}
+use borrow.Author.Tests.{eqb-true, eq-eqb}
+use Rattle.lists.specs.Lists.{all}
+use Rattle.lists.proofs.Tests.{not-false}
 use Rattle.rules.specs.declared.Table.{Table}
 use Rattle.rules.specs.declared.Event.{Event}
 use Rattle.rules.specs.declared.Act.the-variants as act
@@ -11,11 +15,28 @@ use Rattle.rules.specs.declared.Kind.{Kind}
 use Rattle.rules.specs.declared.Mark.{Mark}
 use Rattle.rules.specs.declared.Vote.{Vote}
 use Rattle.rules.specs.declared.Reply.{Reply}
+use Rattle.rules.specs.RefusalNumber as refusal
 use Rattle.rules.specs.Sound.{soundOf}
 use Rattle.rules.specs.Events.{kindOf}
-use Rattle.rules.specs.Refusals.{Check, firstOf, refusalOf}
-use Rattle.rules.proofs.Checks.{firstTwo, refusal-begin, refusal-enlist, refusal-commit, refusal-rollback, refusal-ask, refusal-reenlisted, refusal-zero-done, refusal-vote, refusal-reply, refusal-ack, refusal-lost}
-use Rattle.refusals.specs.Checking.{beginChecks, enlistChecks, commitChecks, rollbackChecks, aboutOneChecks, askChecks, reenlistedChecks}
+use Rattle.rules.specs.Refusals.{Check, firstOf, checksOf, refusalOf}
+use Rattle.rules.specs.Checks as checks
+use Rattle.rules.proofs.Checks.{passes-at, refused-before, firstTwo, refusal-begin, refusal-enlist, refusal-commit, refusal-rollback, refusal-ask, refusal-reenlisted, refusal-zero-done, refusal-vote, refusal-reply, refusal-ack, refusal-lost}
+use Rattle.rules.specs.Checks.{beginChecks, enlistChecks, commitChecks, rollbackChecks, aboutOneChecks, askChecks, reenlistedChecks}
+
+module _ (tb : Table) (e : Event) (n : ℕ) {sound : Bool} {why : ℕ} (told : sound ≡ soundOf tb) (q : why ≡ firstOf (checks.first sound n (tb .capacity))) where
+  is-first : why ≡ firstOf (checks.first (soundOf tb) n (tb .capacity))
+  is-first = q ∙ ap (λ b. firstOf (checks.first b n (tb .capacity))) told
+
+  pub first-refuses : eqb why refusal.accepted ≡ false → why ≡ refusalOf tb e n
+  unfolding refusalOf checksOf
+  first-refuses z = is-first ∙ sym (refused-before (checks.first (soundOf tb) n (tb .capacity)) _ (rw is-first at z))
+
+  pub first-passes : eqb why refusal.accepted ≡ true → (soundOf tb ≡ true) × (n ≡ tb .capacity)
+  unfolding all
+  first-passes z = (not-false _ (passes 0), eqb-true n (tb .capacity) (not-false _ (passes 1)))
+    where
+      passes : (i : ℕ) → getD (map (λ c. c .applies) (checks.first (soundOf tb) n (tb .capacity))) i false ≡ false
+      passes i = passes-at (checks.first (soundOf tb) n (tb .capacity)) i refl (sym is-first ∙ eqb-true why refusal.accepted z)
 
 module _ (tb : Table) (e : Event) (n : ℕ) (sound : soundOf tb ≡ true) (long : n ≡ tb .capacity) where
   behind-two : (cs : List Check) → firstOf (firstTwo tb n cs) ≡ firstOf cs

@@ -28,8 +28,9 @@ use Rattle.rules.specs.Table.{isVacant, isDurableOf, durableKind, placeN
 use Rattle.rules.specs.Sound.{In, HoldsWell, Live, Identifier, Sound}
 use Rattle.rules.specs.Events.{kindOf, reactedOf, acted, acceptedOf}
 use Rattle.rules.specs.Refusals.{numberIn, isNumberHeld, Check, firstOf, refusalOf}
+use Rattle.rules.specs.Checks.{aboutOneChecks}
 use Rattle.rules.proofs.Identifiers.{equal-zero}
-use Rattle.rules.proofs.Checks.{areNumbered, passes-at, firstTwo, checksOfOne, refusal-begin, refusal-enlist, refusal-commit, refusal-rollback, refusal-zero-done, refusal-vote, refusal-reply, refusal-ack, refusal-lost}
+use Rattle.rules.proofs.Checks.{areNumbered, passes-at, firstTwo, refusal-begin, refusal-enlist, refusal-commit, refusal-rollback, refusal-zero-done, refusal-vote, refusal-reply, refusal-ack, refusal-lost}
 use Rattle.rules.proofs.Put.{freePlace}
 use Rattle.rules.proofs.Parts.{Part, Abortable, abort-part}
 use Rattle.rules.proofs.Kept.{Kept, sound-kept, live-some}
@@ -158,7 +159,7 @@ module _ (tb : Table) (e : Event) (log : List ℕ) (fine : refusalOf tb e (lengt
 
   module _ (s : Sound tb) where
     -- an event about the enlistment with number n
-    pub one-named : (n : ℕ) (a : Act) → refusalOf tb e (length log) ≡ firstOf (firstTwo tb (length log) (checksOfOne tb n a)) → Named n tb (numbered n tb)
+    pub one-named : (n : ℕ) (a : Act) → refusalOf tb e (length log) ≡ firstOf (firstTwo tb (length log) (aboutOneChecks tb n a)) → Named n tb (numbered n tb)
     unfolding all
     one-named n a c = is-named n tb s (eqb-false n 0 (fails _ 2 refl c)) (not-false _ (fails _ 3 refl c))
 
@@ -201,7 +202,7 @@ module _ (tb : Table) (e : Event) (log : List ℕ) (fine : refusalOf tb e (lengt
       unfolding acted
       ask-own = ask-part r p tb log s
 
-      one-own : (n : ℕ) (a : Act) → refusalOf tb e (length log) ≡ firstOf (firstTwo tb (length log) (checksOfOne tb n a)) → Part (numbered n tb .holder) tb (reactedOf n a tb log .table)
+      one-own : (n : ℕ) (a : Act) → refusalOf tb e (length log) ≡ firstOf (firstTwo tb (length log) (aboutOneChecks tb n a)) → Part (numbered n tb .holder) tb (reactedOf n a tb log .table)
       one-own n a c = reacted-part n a tb log s (one-named n a c)
 
       -- ── the step ──────────────────────────────────────────────────────────────────────────────────────────────────
