@@ -1,12 +1,8 @@
 -- The place that is found is the lowest empty one, so that an entry put there is the one that the definition puts.
 use Prim.Native.Nat.{ℕ}
-use mathlib.Core.Path.{_≡_, refl, sym, _∙_, ap}
-use mathlib.Core.Bool.{Bool, true, false, not}
+use mathlib.Core.Path.{_≡_, sym, _∙_, ap}
 use mathlib.Core.List.{List, map}
-use lib.Dec.{eqb}
-use Rattle.lists.specs.Lists.{none}
 use Rattle.lists.specs.Places.{placeOf, changeAt}
-use Rattle.lists.proofs.Loops.{any-place}
 use Rattle.lists.proofs.Places.{put-is}
 use Rattle.rules.specs.declared.Transaction.{Transaction}
 use Rattle.rules.specs.declared.Enlistment.{Enlistment}

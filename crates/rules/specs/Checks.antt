@@ -7,6 +7,7 @@ use lib.ListN.{length}
 use Rattle.lists.specs.Lists.{any, none}
 use Rattle.rules.specs.declared.Table.{Table}
 use Rattle.rules.specs.declared.Act.{Act}
+use Rattle.rules.specs.declared.Act.the-variants as act
 use Rattle.rules.specs.declared.Reaction.{Reaction}
 use Rattle.rules.specs.RefusalNumber as refusal
 use Rattle.rules.specs.TransactionState as transaction
@@ -14,7 +15,7 @@ use Rattle.rules.specs.EnlistmentState as enlistment
 use Rattle.rules.specs.Sizes.{heldMost}
 use Rattle.rules.specs.Identifiers.{Id, isZero}
 use Rattle.rules.specs.Table.{placeNamed, stateAt, isFree, isVacant, held, numbered, durableKind, isDurableOf, isIn}
-use Rattle.rules.specs.Events.{reactionOf, isUndone, isOver}
+use Rattle.rules.specs.Events.{kindOf, reactionOf, isUndone, isOver}
 use Rattle.rules.specs.Refusals.{Check, check, isNumberHeld, isRefused}
 
 -- ── of what is looked up ────────────────────────────────────────────────────────────────────────────────────────
@@ -26,7 +27,7 @@ first sound lent capacity =
     ∷ check (not (eqb lent capacity)) refusal.logLength
     ∷ []
 
--- The transaction t that is named stands at the place `named`, 0 if it is not live.
+-- named: the place of the transaction t, 0 if it is not live; state: its state
 abbrev pub begin : Id → ℕ → Bool → List Check
 begin t named full =
     check (isZero t) refusal.zeroNamed
@@ -111,3 +112,17 @@ askChecks tb t r = let p = placeNamed t tb in ask t r (stateAt p tb) (none (isUn
 
 abbrev pub reenlistedChecks : Table → Id → List Check
 reenlistedChecks tb r = reenlisted r (any (λ f. isUndone r f && not (isIn enlistment.failedToNotify f)) (tb .enlistments))
+
+-- t and r are the identifiers that the event names
+abbrev pub ownChecks : Act → Id → Id → Table → List Check
+ownChecks act.Begin t r tb = beginChecks tb t
+ownChecks (act.Enlist n k m) t r tb = enlistChecks tb t r n (kindOf k)
+ownChecks act.Commit t r tb = commitChecks tb t
+ownChecks (act.ZeroDone n) t r tb = aboutOneChecks tb n (act.ZeroDone n)
+ownChecks (act.Vote n v) t r tb = aboutOneChecks tb n (act.Vote n v)
+ownChecks act.Rollback t r tb = rollbackChecks tb t
+ownChecks (act.Reply n a) t r tb = aboutOneChecks tb n (act.Reply n a)
+ownChecks (act.Ack n) t r tb = aboutOneChecks tb n (act.Ack n)
+ownChecks (act.Lost n) t r tb = aboutOneChecks tb n (act.Lost n)
+ownChecks act.Ask t r tb = askChecks tb t r
+ownChecks act.Reenlisted t r tb = reenlistedChecks tb r

@@ -20,7 +20,7 @@ step-in-spec =
     (λ c κs. search needs)
     (λ c κs. let s = c .before .before .before .before .before .before in
     let a = s .args in
-    let fine = first-passes (tableIn (a .heads .now) (a .rows .now) (a .capacity) (a .used)) (a .event) (length (a .log .now)) (s .pre .2) (c .before .before .before .before .first .ensures) (c .before .before .before .if1 .taken) in
+    let fine = first-passes (tableIn (a .heads .now) (a .rows .now) (a .capacity) (a .used)) (length (a .log .now)) (s .pre .2) (c .before .before .before .before .first .ensures) (c .before .before .before .if1 .taken) in
     (record { long-heads = s .pre .0; long-rows = s .pre .1; sound = fine .0 }, fine .1))
     (λ c. search needs)
     (λ c. c .before .before .on-event .ensures)
@@ -29,4 +29,4 @@ step-in-spec =
     let a = s .args in
     let tb = tableIn (a .heads .now) (a .rows .now) (a .capacity) (a .used) in
     let why = c .before .before .first .result in
-    silent-does (a .heads .now) (a .rows .now) (a .capacity) (a .used) (check true why ∷ []) (acceptedOf tb (a .event) (a .log .now)) (a .log .now) why (s .pre .0) (s .pre .1) refl (c .before .if1 .left) (c .silent .ensures) (a .event) (sym (first-refuses tb (a .event) (length (a .log .now)) (s .pre .2) (c .before .before .first .ensures) (c .before .if1 .left))) refl))
+    silent-does (a .heads .now) (a .rows .now) (a .capacity) (a .used) (check true why ∷ []) (acceptedOf tb (a .event) (a .log .now)) (a .log .now) why (s .pre .0) (s .pre .1) refl (c .before .if1 .left) (c .silent .ensures) (a .event) (sym (first-refuses tb (length (a .log .now)) (s .pre .2) (c .before .before .first .ensures) (a .event) (c .before .if1 .left))) refl))
