@@ -1,12 +1,8 @@
 -- The place that is found is the lowest empty one, so that an entry put there is the one that the definition puts.
 use Prim.Native.Nat.{ℕ}
-use mathlib.Core.Path.{_≡_, refl, sym, _∙_, ap}
-use mathlib.Core.Bool.{Bool, true, false, not}
+use mathlib.Core.Path.{_≡_, sym, _∙_, ap}
 use mathlib.Core.List.{List, map}
-use lib.Dec.{eqb}
-use Rattle.lists.specs.Lists.{none}
 use Rattle.lists.specs.Places.{placeOf, changeAt}
-use Rattle.lists.proofs.Loops.{any-place}
 use Rattle.lists.proofs.Places.{put-is}
 use Rattle.rules.specs.declared.Transaction.{Transaction}
 use Rattle.rules.specs.declared.Enlistment.{Enlistment}
@@ -18,13 +14,6 @@ use Rattle.rules.specs.Identifiers.{Id}
 use Rattle.rules.specs.Table.{placeNamed, stateAt, isFree, isVacant}
 use Rattle.rules.specs.Events.{beginOf, newEnlistment, enlistOf}
 use Rattle.rows.specs.Memory.{transactionIn, enlistmentIn, tableIn}
-
-pub none-place : {A : Type 0} (f : A → Bool) (xs : List A) → none f xs ≡ eqb (placeOf f xs) 0
-none-place f xs = rw (any-place f xs) (twice _)
-  where
-    twice : (b : Bool) → not (not b) ≡ b
-    twice true = refl
-    twice false = refl
 
 module _ (heads rows : List (List ℕ)) (capacity used : ℕ) (id : Id) (log : List ℕ) where
   abbrev before : Table

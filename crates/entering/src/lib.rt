@@ -10,7 +10,7 @@ ghost use Rattle.rules.specs.Sizes.{enlistmentPlaces};
 ghost use Rattle.rules.specs.Table.{placeNamed};
 ghost use Rattle.rules.specs.Signals.{rowOf};
 ghost use Rattle.rules.specs.Events.{kindOf, beginOf, enlistOf};
-ghost use Rattle.refusals.specs.Checking.{heldAlready, fullFor, beginChecks, enlistChecks};
+ghost use Rattle.rules.specs.Checks.{heldAlready, fullFor, beginChecks, enlistChecks};
 ghost use Rattle.rows.specs.Memory.{tableIn};
 ghost use Rattle.entering.specs.StepIn.{Fine, Does};
 use rules::Kind;

@@ -27,7 +27,7 @@ use Rattle.rules.proofs.Checks.{passes-at}
 use Rattle.rules.proofs.Frames.{Keeps, of-held}
 use Rattle.rules.proofs.Along.{oneIf}
 use Rattle.rules.proofs.Only.{openAt}
-use Rattle.refusals.specs.Checking.{aboutOneChecks}
+use Rattle.rules.specs.Checks.{aboutOneChecks}
 use Rattle.holdings.specs.declared.Holding.{Holding}
 use Rattle.holdings.specs.Holdings.{alone, withHeld}
 use Rattle.holdings.specs.Within.{filled, taken, within}

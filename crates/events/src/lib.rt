@@ -11,7 +11,7 @@ ghost use Rattle.rules.specs.Sound.{isOpen};
 ghost use Rattle.rules.specs.Events.{commitOf, abortOf, reactedOf, askOf, reenlistedOf};
 ghost use Rattle.rules.proofs.Along.{oneIf};
 ghost use Rattle.holdings.specs.Holdings.{alone};
-ghost use Rattle.refusals.specs.Checking.{commitChecks, rollbackChecks, aboutOneChecks, askChecks, reenlistedChecks};
+ghost use Rattle.rules.specs.Checks.{commitChecks, rollbackChecks, aboutOneChecks, askChecks, reenlistedChecks};
 ghost use Rattle.rows.specs.Memory.{enlistmentIn, tableIn};
 ghost use Rattle.entering.specs.StepIn.{IsStepIn, Fine, Does};
 ghost use Rattle.events.specs.PutsBack.{PutsBack};

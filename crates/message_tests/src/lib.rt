@@ -63,8 +63,8 @@ fn is_writable(message: Message) -> bool
     all(payload.known, directed, tx_fits, rm_fits, session_fits)
 }
 
-pub fn fits(message: Message, length: usize, room: usize) -> bool
-    ensures { λ r. ⌜ r ≡ (isWritable message && leb length room) ⌝ }
+pub fn fits(message: Message, size: usize, room: usize) -> bool
+    ensures { λ r. ⌜ r ≡ (isWritable message && leb size room) ⌝ }
 {
-    basics::both(is_writable(message), length <= room)
+    basics::both(is_writable(message), size <= room)
 }

@@ -1,12 +1,14 @@
--- An enlistment with a number that is not zero is held if and only if the one that is found has it; and a reaction is refused with its own number.
+-- None passes if and only if no place is found; an enlistment with a number that is not zero is held if and only if the one that is found has it; and a reaction is refused with its own number.
 use Prim.Native.Nat.{ℕ}
 use mathlib.Core.Path.{_≡_, refl, sym}
-use mathlib.Core.Bool.{false}
+use mathlib.Core.Bool.{Bool, true, false, not}
 use mathlib.Core.List.{List, [], _∷_}
 use lib.Dec.{eqb}
 use borrow.Author.Tests.{ne-eqb, eqb-false}
-use Rattle.lists.specs.Lists.{any, firstOr}
+use Rattle.lists.specs.Lists.{any, none, firstOr}
+use Rattle.lists.specs.Places.{placeOf}
 use Rattle.lists.proofs.Tests.{by-test}
+use Rattle.lists.proofs.Loops.{any-place}
 use Rattle.rules.specs.declared.Enlistment.{Enlistment}
 use Rattle.rules.specs.declared.Table.{Table}
 use Rattle.rules.specs.declared.Reaction.{Reaction}
@@ -14,6 +16,13 @@ use Rattle.rules.specs.declared.Reaction.the-variants as reaction
 use Rattle.rules.specs.Table.{noEnlistment, isNumbered, numbered}
 use Rattle.rules.specs.RefusalNumber as refusal
 use Rattle.rules.specs.Refusals.{check, firstOf, isRefused, reactionRefusal}
+
+pub none-place : {A : Type 0} (f : A → Bool) (xs : List A) → none f xs ≡ eqb (placeOf f xs) 0
+none-place f xs = rw (any-place f xs) (twice _)
+  where
+    twice : (b : Bool) → not (not b) ≡ b
+    twice true = refl
+    twice false = refl
 
 first-has : (n : ℕ) (es : List Enlistment) → eqb n 0 ≡ false → any (isNumbered n) es ≡ isNumbered n (firstOr noEnlistment (isNumbered n) es)
 unfolding any firstOr

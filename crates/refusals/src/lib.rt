@@ -1,22 +1,15 @@
-// Why an event is refused: the first check that applies, in the order of document 01. The caller looks up what a check asks of the table: each answer is that of every table of which it told the truth.
+// Why an event is refused: the first check that applies, in the order of document 01. The caller looks up what a check asks of the table: proofs/Found.antt says that the answer is then the table's own.
 
-ghost use Prim.Native.Nat.{ℕ};
 ghost use mathlib.Core.Path.{_≡_};
-ghost use mathlib.Core.Bool.{true, false, not, _&&_, _||_};
+ghost use mathlib.Core.Bool.{_&&_, _||_};
 ghost use lib.Dec.{eqb, leb};
-ghost use Rattle.lists.specs.Lists.{any, none};
-ghost use Rattle.lists.specs.Places.{placeOf};
-ghost use Rattle.rules.specs.declared.Table.{Table};
-ghost use Rattle.rules.specs.declared.Event.{Event};
-ghost use Rattle.rules.specs.EnlistmentState as enlistment;
-ghost use Rattle.rules.specs.RefusalNumber as refusal;
 ghost use Rattle.rules.specs.Sizes.{heldMost};
 ghost use Rattle.rules.specs.Identifiers.{isZero};
-ghost use Rattle.rules.specs.Table.{placeNamed, stateAt, isFree, held, numbered, durableKind, isIn};
-ghost use Rattle.rules.specs.Events.{isUndone, isOver};
-ghost use Rattle.rules.specs.Sound.{soundOf};
-ghost use Rattle.rules.specs.Refusals.{firstOf, refusalOf};
-ghost use Rattle.refusals.specs.Checking.{isEarly, heldAlready, fullFor, beginChecks, enlistChecks, commitChecks, rollbackChecks, aboutOneChecks, askChecks, reenlistedChecks};
+ghost use Rattle.rules.specs.Table.{durableKind};
+ghost use Rattle.rules.specs.Events.{reactionOf, isOver};
+ghost use Rattle.rules.specs.Refusals.{firstOf};
+ghost use Rattle.rules.specs.Checks as checks;
+ghost use Rattle.rules.specs.Checks.{isEarly};
 use rules::Act;
 use rules::Enlistment;
 use rules::kinds;
@@ -72,12 +65,12 @@ pub fn is_full(vacant: u8, held: u8) -> bool
 }
 
 // The checks that are every event's: 0 leaves those of the event.
-pub fn first(sound: bool, length: usize, capacity: u32) -> u8
-    ensures { λ r. ⌜ ((tb : Table) (e : Event) → sound ≡ soundOf tb → capacity ≡ tb .capacity → (eqb r refusal.accepted ≡ false → r ≡ refusalOf tb e length) × (eqb r refusal.accepted ≡ true → (soundOf tb ≡ true) × (length ≡ tb .capacity))) ⌝ }
+pub fn first(sound: bool, lent: usize, capacity: u32) -> u8
+    ensures { λ r. ⌜ r ≡ firstOf (checks.first sound lent capacity) ⌝ }
 {
     let whole = capacity as usize;
     if sound {
-        if length == whole {
+        if lent == whole {
             return refusal::ACCEPTED;
         }
         return refusal::LOG_LENGTH;
@@ -86,7 +79,7 @@ pub fn first(sound: bool, length: usize, capacity: u32) -> u8
 }
 
 pub fn begin(id: [u8; 16], named: u8, free: u8) -> u8
-    ensures { λ r. ⌜ ((tb : Table) → named ≡ placeNamed id tb → free ≡ placeOf isFree (tb .transactions) → r ≡ firstOf (beginChecks tb id)) ⌝ }
+    ensures { λ r. ⌜ r ≡ firstOf (checks.begin id named (eqb free 0)) ⌝ }
 {
     let zero = identifiers::is_zero(id);
     if zero {
@@ -112,7 +105,7 @@ pub fn enlist(
     already: bool,
     full: bool,
 ) -> u8
-    ensures { λ r. ⌜ ((tb : Table) (k : ℕ) → named ≡ placeNamed id tb → state ≡ stateAt named tb → (eqb n 0 ≡ false → already ≡ heldAlready tb named rm n k) → full ≡ fullFor tb named → r ≡ firstOf (enlistChecks tb id rm n k)) ⌝ }
+    ensures { λ r. ⌜ r ≡ firstOf (checks.enlist id rm n named state already full) ⌝ }
 {
     let either = is_either_zero(id, rm);
     let zero = basics::either(either, n == 0);
@@ -137,7 +130,7 @@ pub fn enlist(
 }
 
 pub fn commit(id: [u8; 16], named: u8, state: u8) -> u8
-    ensures { λ r. ⌜ ((tb : Table) → named ≡ placeNamed id tb → state ≡ stateAt named tb → r ≡ firstOf (commitChecks tb id)) ⌝ }
+    ensures { λ r. ⌜ r ≡ firstOf (checks.commit id named state) ⌝ }
 {
     let zero = identifiers::is_zero(id);
     if zero {
@@ -155,7 +148,7 @@ pub fn commit(id: [u8; 16], named: u8, state: u8) -> u8
 }
 
 pub fn rollback(id: [u8; 16], named: u8, state: u8) -> u8
-    ensures { λ r. ⌜ ((tb : Table) → named ≡ placeNamed id tb → state ≡ stateAt named tb → r ≡ firstOf (rollbackChecks tb id)) ⌝ }
+    ensures { λ r. ⌜ r ≡ firstOf (checks.rollback id named state) ⌝ }
 {
     let zero = identifiers::is_zero(id);
     if zero {
@@ -174,7 +167,7 @@ pub fn rollback(id: [u8; 16], named: u8, state: u8) -> u8
 
 // Of an event about the enlistment with number n: e is what was found by it.
 pub fn about_one(n: u32, act: Act, e: Enlistment) -> u8
-    ensures { λ r. ⌜ ((tb : Table) → e ≡ numbered n tb → r ≡ firstOf (aboutOneChecks tb n act)) ⌝ }
+    ensures { λ r. ⌜ r ≡ firstOf (checks.aboutOne n (eqb (e .number) n) (reactionOf (e .kind) (e .state) act)) ⌝ }
 {
     let zero = n == 0;
     if zero {
@@ -190,7 +183,7 @@ pub fn about_one(n: u32, act: Act, e: Enlistment) -> u8
 
 // `lacks`: the transaction has no durable enlistment of the resource manager that isn't Done.
 pub fn ask(id: [u8; 16], rm: [u8; 16], state: u8, lacks: bool) -> u8
-    ensures { λ r. ⌜ ((tb : Table) → state ≡ stateAt (placeNamed id tb) tb → (isOver state ≡ false → lacks ≡ none (isUndone rm) (held (placeNamed id tb) tb)) → r ≡ firstOf (askChecks tb id rm)) ⌝ }
+    ensures { λ r. ⌜ r ≡ firstOf (checks.ask id rm state lacks) ⌝ }
 {
     let zero = is_either_zero(id, rm);
     if zero {
@@ -208,7 +201,7 @@ pub fn ask(id: [u8; 16], rm: [u8; 16], state: u8, lacks: bool) -> u8
 
 // `elsewhere`: one that isn't Done stands elsewhere than in Failed-to-notify.
 pub fn reenlisted(rm: [u8; 16], elsewhere: bool) -> u8
-    ensures { λ r. ⌜ ((tb : Table) → elsewhere ≡ any (λ f. isUndone rm f && not (isIn enlistment.failedToNotify f)) (tb .enlistments) → r ≡ firstOf (reenlistedChecks tb rm)) ⌝ }
+    ensures { λ r. ⌜ r ≡ firstOf (checks.reenlisted rm elsewhere) ⌝ }
 {
     let zero = identifiers::is_zero(rm);
     if zero {

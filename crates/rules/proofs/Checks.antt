@@ -1,30 +1,22 @@
 -- A refusal is the first check that applies: where it is none, no check applies; and of an event only its own checks are left.
 use Prim.Native.Nat.{ℕ, zero, suc}
 use mathlib.Core.Path.{_≡_, refl}
-use mathlib.Core.Bool.{Bool, true, false, not, _&&_, _||_, or-false}
-use mathlib.Core.List.{List, [], _∷_, map}
-use lib.Dec.{eqb, leb}
-use lib.ListN.{length, getD}
+use mathlib.Core.Bool.{Bool, true, false, not, true≢false, or-false}
+use mathlib.Core.List.{List, [], _∷_, _++_, map}
+use lib.Dec.{eqb}
+use lib.ListN.{getD}
 use borrow.Author.Tests.{eqb-true, eqb-false}
-use Rattle.lists.specs.Lists.{all, any, none}
+use Rattle.lists.specs.Lists.{all, any}
 use Rattle.lists.proofs.Tests.{by-test, true-and, not-true, not-false}
 use Rattle.rules.specs.declared.Table.{Table}
 use Rattle.rules.specs.declared.Event.{Event}
 use Rattle.rules.specs.declared.Act.{Act}
 use Rattle.rules.specs.declared.Act.the-variants as act
-use Rattle.rules.specs.declared.Kind.{Kind}
-use Rattle.rules.specs.declared.Mark.{Mark}
-use Rattle.rules.specs.declared.Vote.{Vote}
-use Rattle.rules.specs.declared.Reply.{Reply}
 use Rattle.rules.specs.RefusalNumber as refusal
-use Rattle.rules.specs.TransactionState as transaction
-use Rattle.rules.specs.EnlistmentState as enlistment
-use Rattle.rules.specs.Sizes.{heldMost}
-use Rattle.rules.specs.Identifiers.{isZero}
-use Rattle.rules.specs.Table.{placeNamed, stateAt, isFree, isVacant, held, numbered, durableKind, isDurableOf, isIn}
 use Rattle.rules.specs.Sound.{soundOf}
-use Rattle.rules.specs.Events.{kindOf, reactionOf, isUndone, isOver}
-use Rattle.rules.specs.Refusals.{isOneOf, isNumberHeld, isRefused, namesZero, isNotLive, isNotHeld, isAlreadyLive, isStateWrong, isReactionRefused, isAlreadyHeld, isFull, lacksDurable, standsElsewhere, Check, check, firstOf, checksOf, refusalOf}
+use Rattle.rules.specs.Refusals.{isOneOf, namesZero, isNotLive, isNotHeld, isAlreadyLive, isStateWrong, isReactionRefused, isAlreadyHeld, isFull, lacksDurable, standsElsewhere, Check, firstOf, checksOf, refusalOf}
+use Rattle.rules.specs.Checks as checks
+use Rattle.rules.specs.Checks.{ownChecks}
 
 -- ── no check applies ────────────────────────────────────────────────────────────────────────────────────────────
 
@@ -46,7 +38,7 @@ passes-at [] n g e = refl
 passes-at (c ∷ cs) zero g e = passed c cs g e .0
 passes-at (c ∷ cs) (suc n) g e = let (t, ms, r) = passed c cs g e in passes-at cs n ms r
 
--- what holds of a step that is not refused
+-- what holds of a step that is not refused: no check applies, each of `checksOf` in its order
 pub record Accepted (tb : Table) (e : Event) (n : ℕ) : Type 0 where
   pub sound : soundOf tb ≡ true
   pub log-length : n ≡ tb .capacity
@@ -87,84 +79,25 @@ checking = tt
 
 -- the first two are every event's
 abbrev pub firstTwo : Table → ℕ → List Check → List Check
-firstTwo tb n cs = check (not (soundOf tb)) refusal.notSound ∷ check (not (eqb n (tb .capacity))) refusal.logLength ∷ cs
+firstTwo tb n cs = checks.first (soundOf tb) n (tb .capacity) ++ cs
 
--- those of an event about the enlistment with number m
-abbrev pub checksOfOne : Table → ℕ → Act → List Check
-checksOfOne tb m a =
-    check (eqb m 0) refusal.zeroNamed
-    ∷ check (not (isNumberHeld m tb)) refusal.notHeld
-    ∷ check (isRefused (reactionOf (numbered m tb .kind) (numbered m tb .state) a)) refusal.enlistmentState
-    ∷ []
+-- what refuses an event refuses it whatever is checked behind
+pub refused-before : (cs ds : List Check) → eqb (firstOf cs) refusal.accepted ≡ false → firstOf (cs ++ ds) ≡ firstOf cs
+unfolding firstOf
+refused-before [] ds n = absurd (true≢false n)
+refused-before (c ∷ cs) ds n = by-test (c .applies) (λ t. rw t) (λ t. rw t (refused-before cs ds (rw t at n)))
 
-module _ (tb : Table) (e : Event) (n : ℕ) where
-  abbrev place : ℕ
-  place = placeNamed (e .tx .0) tb
-
-  pub refusal-begin : e .act ≡ act.Begin → refusalOf tb e n ≡ firstOf (firstTwo tb n (
-      check (isZero (e .tx .0)) refusal.zeroNamed
-      ∷ check (not (eqb place 0)) refusal.alreadyLive
-      ∷ check (none isFree (tb .transactions)) refusal.full
-      ∷ []))
-  unfolding checking
-  refusal-begin q = rw q (simp or-false)
-
-  pub refusal-enlist : (m : ℕ) (k : Kind) (y : Mark) → e .act ≡ act.Enlist m k y → refusalOf tb e n ≡ firstOf (firstTwo tb n (
-      check (isZero (e .tx .0) || isZero (e .rm .0) || eqb m 0) refusal.zeroNamed
-      ∷ check (eqb place 0) refusal.notLive
-      ∷ check (not (eqb (stateAt place tb) transaction.active || eqb (stateAt place tb) transaction.phaseZero)) refusal.transactionState
-      ∷ check (isNumberHeld m tb || (durableKind (kindOf k) && any (isDurableOf (e .rm .0)) (held place tb))) refusal.alreadyHeld
-      ∷ check (none isVacant (tb .enlistments) || leb heldMost (length (held place tb))) refusal.full
-      ∷ []))
-  unfolding checking
-  refusal-enlist m k y q = rw q (simp or-false)
-
-  pub refusal-commit : e .act ≡ act.Commit → refusalOf tb e n ≡ firstOf (firstTwo tb n (
-      check (isZero (e .tx .0)) refusal.zeroNamed
-      ∷ check (eqb place 0) refusal.notLive
-      ∷ check (not (eqb (stateAt place tb) transaction.active)) refusal.transactionState
-      ∷ []))
-  unfolding checking
-  refusal-commit q = rw q (simp or-false)
-
-  pub refusal-rollback : e .act ≡ act.Rollback → refusalOf tb e n ≡ firstOf (firstTwo tb n (
-      check (isZero (e .tx .0)) refusal.zeroNamed
-      ∷ check (eqb place 0) refusal.notLive
-      ∷ check (not (eqb (stateAt place tb) transaction.active || eqb (stateAt place tb) transaction.phaseZero)) refusal.transactionState
-      ∷ []))
-  unfolding checking
-  refusal-rollback q = rw q (simp or-false)
-
-  pub refusal-ask : e .act ≡ act.Ask → refusalOf tb e n ≡ firstOf (firstTwo tb n (
-      check (isZero (e .tx .0) || isZero (e .rm .0)) refusal.zeroNamed
-      ∷ check (not (isOver (stateAt place tb)) && none (isUndone (e .rm .0)) (held place tb)) refusal.noSuchDurable
-      ∷ []))
-  unfolding checking
-  refusal-ask q = rw q (simp or-false)
-
-  pub refusal-reenlisted : e .act ≡ act.Reenlisted → refusalOf tb e n ≡ firstOf (firstTwo tb n (
-      check (isZero (e .rm .0)) refusal.zeroNamed
-      ∷ check (any (λ f. isUndone (e .rm .0) f && not (isIn enlistment.failedToNotify f)) (tb .enlistments)) refusal.notFailedToNotify
-      ∷ []))
-  unfolding checking
-  refusal-reenlisted q = rw q (simp or-false)
-
-  pub refusal-zero-done : (m : ℕ) → e .act ≡ act.ZeroDone m → refusalOf tb e n ≡ firstOf (firstTwo tb n (checksOfOne tb m (act.ZeroDone m)))
-  unfolding checking
-  refusal-zero-done m q = rw q
-
-  pub refusal-vote : (m : ℕ) (v : Vote) → e .act ≡ act.Vote m v → refusalOf tb e n ≡ firstOf (firstTwo tb n (checksOfOne tb m (act.Vote m v)))
-  unfolding checking
-  refusal-vote m v q = rw q
-
-  pub refusal-reply : (m : ℕ) (r : Reply) → e .act ≡ act.Reply m r → refusalOf tb e n ≡ firstOf (firstTwo tb n (checksOfOne tb m (act.Reply m r)))
-  unfolding checking
-  refusal-reply m r q = rw q
-
-  pub refusal-ack : (m : ℕ) → e .act ≡ act.Ack m → refusalOf tb e n ≡ firstOf (firstTwo tb n (checksOfOne tb m (act.Ack m)))
-  unfolding checking
-  refusal-ack m q = rw q
-
-  pub refusal-lost : (m : ℕ) → e .act ≡ act.Lost m → refusalOf tb e n ≡ firstOf (firstTwo tb n (checksOfOne tb m (act.Lost m)))
-  unfolding checking
-  refusal-lost m q = rw q
+-- behind them stand its own
+pub refusal-checks : (tb : Table) (e : Event) (n : ℕ) (a : Act) → e .act ≡ a → refusalOf tb e n ≡ firstOf (firstTwo tb n (ownChecks a (e .tx .0) (e .rm .0) tb))
+unfolding checking
+refusal-checks tb e n act.Begin q = rw q (simp or-false)
+refusal-checks tb e n (act.Enlist m k y) q = rw q (simp or-false)
+refusal-checks tb e n act.Commit q = rw q (simp or-false)
+refusal-checks tb e n (act.ZeroDone m) q = rw q
+refusal-checks tb e n (act.Vote m v) q = rw q
+refusal-checks tb e n act.Rollback q = rw q (simp or-false)
+refusal-checks tb e n (act.Reply m r) q = rw q
+refusal-checks tb e n (act.Ack m) q = rw q
+refusal-checks tb e n (act.Lost m) q = rw q
+refusal-checks tb e n act.Ask q = rw q (simp or-false)
+refusal-checks tb e n act.Reenlisted q = rw q (simp or-false)

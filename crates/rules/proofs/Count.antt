@@ -35,7 +35,7 @@ use Rattle.rules.specs.Signals.{padded, byNumber, toEach, toApp}
 use Rattle.rules.specs.Events.{Outcome, hearsAbort, abortOf, lacksRoom, commitSignals, endCommitted, decideOf, startPhaseOne, beginOf, zeroAtOnce, enlistOf, commitOf, endIfDone, endOf, append, follow, react, reactedOf, isOver, askOf, endEach, reenlistedOf, acted, acceptedOf}
 use Rattle.rules.specs.Refusals.{refusalOf}
 use Rattle.rules.proofs.Frames.{held-shorter}
-use Rattle.rules.proofs.Checks.{refusal-zero-done, refusal-vote, refusal-reply, refusal-ack, refusal-lost}
+use Rattle.rules.proofs.Checks.{refusal-checks}
 use Rattle.rules.proofs.Own.{commit-live, rollback-live, one-named}
 
 abbrev Few : Outcome → Type 0
@@ -141,12 +141,12 @@ module _ (tb : Table) (e : Event) (log : List ℕ) (fine : refusalOf tb e (lengt
   few act.Begin q = omega arith
   few (act.Enlist n k m) q = enlist-few _ n _ k m tb log
   few act.Commit q = commit-few _ tb log (s .few _ (commit-live tb e log fine q))
-  few (act.ZeroDone n) q = react-few _ _ n tb log (s .few _ (one-named tb e log fine s n _ (refusal-zero-done tb e (length log) n q) .live))
-  few (act.Vote n v) q = react-few _ _ n tb log (s .few _ (one-named tb e log fine s n _ (refusal-vote tb e (length log) n v q) .live))
+  few (act.ZeroDone n) q = react-few _ _ n tb log (s .few _ (one-named tb e log fine s n _ (refusal-checks tb e (length log) (act.ZeroDone n) q) .live))
+  few (act.Vote n v) q = react-few _ _ n tb log (s .few _ (one-named tb e log fine s n _ (refusal-checks tb e (length log) (act.Vote n v) q) .live))
   few act.Rollback q = abort-few _ tb log (s .few _ (rollback-live tb e log fine q))
-  few (act.Reply n a) q = react-few _ _ n tb log (s .few _ (one-named tb e log fine s n _ (refusal-reply tb e (length log) n a q) .live))
-  few (act.Ack n) q = react-few _ _ n tb log (s .few _ (one-named tb e log fine s n _ (refusal-ack tb e (length log) n q) .live))
-  few (act.Lost n) q = react-few _ _ n tb log (s .few _ (one-named tb e log fine s n _ (refusal-lost tb e (length log) n q) .live))
+  few (act.Reply n a) q = react-few _ _ n tb log (s .few _ (one-named tb e log fine s n _ (refusal-checks tb e (length log) (act.Reply n a) q) .live))
+  few (act.Ack n) q = react-few _ _ n tb log (s .few _ (one-named tb e log fine s n _ (refusal-checks tb e (length log) (act.Ack n) q) .live))
+  few (act.Lost n) q = react-few _ _ n tb log (s .few _ (one-named tb e log fine s n _ (refusal-checks tb e (length log) (act.Lost n) q) .live))
   few act.Ask q = ask-few _ _ tb log
   few act.Reenlisted q = rw (end-each-quiet _ _ log) (omega arith)
 

@@ -28,8 +28,9 @@ use Rattle.rules.specs.Table.{isVacant, isDurableOf, durableKind, placeN
 use Rattle.rules.specs.Sound.{In, HoldsWell, Live, Identifier, Sound}
 use Rattle.rules.specs.Events.{kindOf, reactedOf, acted, acceptedOf}
 use Rattle.rules.specs.Refusals.{numberIn, isNumberHeld, Check, firstOf, refusalOf}
+use Rattle.rules.specs.Checks.{aboutOneChecks}
 use Rattle.rules.proofs.Identifiers.{equal-zero}
-use Rattle.rules.proofs.Checks.{areNumbered, passes-at, firstTwo, checksOfOne, refusal-begin, refusal-enlist, refusal-commit, refusal-rollback, refusal-zero-done, refusal-vote, refusal-reply, refusal-ack, refusal-lost}
+use Rattle.rules.proofs.Checks.{areNumbered, passes-at, firstTwo, refusal-checks}
 use Rattle.rules.proofs.Put.{freePlace}
 use Rattle.rules.proofs.Parts.{Part, Abortable, abort-part}
 use Rattle.rules.proofs.Kept.{Kept, sound-kept, live-some}
@@ -150,29 +151,29 @@ module _ (tb : Table) (e : Event) (log : List ℕ) (fine : refusalOf tb e (lengt
   -- Commit and Rollback name a live transaction
   pub commit-live : e .act ≡ act.Commit → Live (transactionAt p tb)
   unfolding all
-  commit-live q = named-live t tb (eqb-false p 0 (fails _ 3 refl (refusal-commit tb e (length log) q)))
+  commit-live q = named-live t tb (eqb-false p 0 (fails _ 3 refl (refusal-checks tb e (length log) act.Commit q)))
 
   pub rollback-live : e .act ≡ act.Rollback → Live (transactionAt p tb)
   unfolding all
-  rollback-live q = named-live t tb (eqb-false p 0 (fails _ 3 refl (refusal-rollback tb e (length log) q)))
+  rollback-live q = named-live t tb (eqb-false p 0 (fails _ 3 refl (refusal-checks tb e (length log) act.Rollback q)))
 
   module _ (s : Sound tb) where
     -- an event about the enlistment with number n
-    pub one-named : (n : ℕ) (a : Act) → refusalOf tb e (length log) ≡ firstOf (firstTwo tb (length log) (checksOfOne tb n a)) → Named n tb (numbered n tb)
+    pub one-named : (n : ℕ) (a : Act) → refusalOf tb e (length log) ≡ firstOf (firstTwo tb (length log) (aboutOneChecks tb n a)) → Named n tb (numbered n tb)
     unfolding all
     one-named n a c = is-named n tb s (eqb-false n 0 (fails _ 2 refl c)) (not-false _ (fails _ 3 refl c))
 
     module _ (y : Typed e) where
       begin-own : e .act ≡ act.Begin → Part (freePlace tb) tb (acted act.Begin t r tb log .table)
       unfolding acted all
-      begin-own q = begin-part t tb log s (identifier t (y .tx) (fails _ 2 refl (refusal-begin tb e (length log) q)))
-          (eqb-true p 0 (not-false _ (fails _ 3 refl (refusal-begin tb e (length log) q))))
-          (not-false _ (fails _ 4 refl (refusal-begin tb e (length log) q)))
+      begin-own q = begin-part t tb log s (identifier t (y .tx) (fails _ 2 refl (refusal-checks tb e (length log) act.Begin q)))
+          (eqb-true p 0 (not-false _ (fails _ 3 refl (refusal-checks tb e (length log) act.Begin q))))
+          (not-false _ (fails _ 4 refl (refusal-checks tb e (length log) act.Begin q)))
 
       enlist-own : (n : ℕ) (k : Kind) (m : Mark) → e .act ≡ act.Enlist n k m → Part p tb (acted (act.Enlist n k m) t r tb log .table)
       unfolding acted all
       enlist-own n k m q =
-          let c = refusal-enlist tb e (length log) n k m q in
+          let c = refusal-checks tb e (length log) (act.Enlist n k m) q in
           enlist-part p n r k m tb log s (record {
             live = named-live t tb (eqb-false p 0 (fails _ 3 refl c));
             state = active-or-zero (stateAt p tb) (fails _ 4 refl c);
@@ -186,14 +187,14 @@ module _ (tb : Table) (e : Event) (log : List ℕ) (fine : refusalOf tb e (lengt
       commit-own : e .act ≡ act.Commit → Part p tb (acted act.Commit t r tb log .table)
       unfolding acted all
       commit-own q =
-          let c = refusal-commit tb e (length log) q in
+          let c = refusal-checks tb e (length log) act.Commit q in
           let l : Live (transactionAt p tb) = commit-live q in
           commit-part p tb log (sound-kept s) l (in-active (s .states p l) (eqb-true (stateAt p tb) transaction.active (not-false _ (fails _ 4 refl c))))
 
       rollback-own : e .act ≡ act.Rollback → Part p tb (acted act.Rollback t r tb log .table)
       unfolding acted all
       rollback-own q =
-          let c = refusal-rollback tb e (length log) q in
+          let c = refusal-checks tb e (length log) act.Rollback q in
           let l : Live (transactionAt p tb) = rollback-live q in
           abort-part p tb log (sound-kept s) l (rolled-back (s .states p l) (by-either (λ z. omega arith) (λ z. omega arith) (active-or-zero (stateAt p tb) (fails _ 4 refl c))))
 
@@ -201,7 +202,7 @@ module _ (tb : Table) (e : Event) (log : List ℕ) (fine : refusalOf tb e (lengt
       unfolding acted
       ask-own = ask-part r p tb log s
 
-      one-own : (n : ℕ) (a : Act) → refusalOf tb e (length log) ≡ firstOf (firstTwo tb (length log) (checksOfOne tb n a)) → Part (numbered n tb .holder) tb (reactedOf n a tb log .table)
+      one-own : (n : ℕ) (a : Act) → refusalOf tb e (length log) ≡ firstOf (firstTwo tb (length log) (aboutOneChecks tb n a)) → Part (numbered n tb .holder) tb (reactedOf n a tb log .table)
       one-own n a c = reacted-part n a tb log s (one-named n a c)
 
       -- ── the step ──────────────────────────────────────────────────────────────────────────────────────────────────
@@ -211,12 +212,12 @@ module _ (tb : Table) (e : Event) (log : List ℕ) (fine : refusalOf tb e (lengt
       own act.Begin q = at-place s (λ z c. c) (begin-own q)
       own (act.Enlist n k m) q = at-place s (λ z c. c) (enlist-own n k m q)
       own act.Commit q = at-place s (λ z c. c) (commit-own q)
-      own (act.ZeroDone n) q = at-place s (λ z c. c) (one-own n (act.ZeroDone n) (refusal-zero-done tb e (length log) n q))
-      own (act.Vote n v) q = at-place s (λ z c. c) (one-own n (act.Vote n v) (refusal-vote tb e (length log) n v q))
+      own (act.ZeroDone n) q = at-place s (λ z c. c) (one-own n (act.ZeroDone n) (refusal-checks tb e (length log) (act.ZeroDone n) q))
+      own (act.Vote n v) q = at-place s (λ z c. c) (one-own n (act.Vote n v) (refusal-checks tb e (length log) (act.Vote n v) q))
       own act.Rollback q = at-place s (λ z c. c) (rollback-own q)
-      own (act.Reply n a) q = at-place s (λ z c. c) (one-own n (act.Reply n a) (refusal-reply tb e (length log) n a q))
-      own (act.Ack n) q = at-place s (λ z c. c) (one-own n (act.Ack n) (refusal-ack tb e (length log) n q))
-      own (act.Lost n) q = at-place s (λ z c. c) (one-own n (act.Lost n) (refusal-lost tb e (length log) n q))
+      own (act.Reply n a) q = at-place s (λ z c. c) (one-own n (act.Reply n a) (refusal-checks tb e (length log) (act.Reply n a) q))
+      own (act.Ack n) q = at-place s (λ z c. c) (one-own n (act.Ack n) (refusal-checks tb e (length log) (act.Ack n) q))
+      own (act.Lost n) q = at-place s (λ z c. c) (one-own n (act.Lost n) (refusal-checks tb e (length log) (act.Lost n) q))
       own act.Ask q = at-place s (λ z c. c) ask-own
       own act.Reenlisted q = record {
         sound = sound-of (reenlisted-kept r tb log s) (reenlisted-room r tb log s) (reenlisted-well r tb log s);

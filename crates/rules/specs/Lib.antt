@@ -18,6 +18,7 @@ pub mod Signals
 pub mod Events
 -- Refusal numbers
 pub mod Refusals
+pub mod Checks
 pub mod Step
 -- Restart
 pub mod Restart

@@ -23,7 +23,7 @@ use Rattle.rules.specs.Step.{stepOf}
 use Rattle.rules.specs.Restart.{restartOf}
 use Rattle.rules.proofs.Identifiers.{equal-same, zero-equal}
 use Rattle.rules.proofs.Soundness.{sentences-sound}
-use Rattle.rules.proofs.Checks.{refusal-ask}
+use Rattle.rules.proofs.Checks.{refusal-checks}
 use Rattle.rules.proofs.Refused.{step-refusal}
 use Rattle.rules.proofs.Frames.{of-held, named-found}
 use Rattle.safety.specs.World.{afterRestart}
@@ -63,7 +63,7 @@ module _ (tb : Table) (s : Sound tb) (e : Event) (is-ask : e .act ≡ act.Ask) (
 
   pub ask-not-refused : (n : ℕ) → n ≡ tb .capacity → refusalOf tb e n ≡ refusal.accepted
   unfolding firstOf
-  ask-not-refused n full = refusal-ask tb e n is-ask ∙ rw (sentences-sound tb s, eq-eqb n (tb .capacity) full, transaction-nonzero, manager-nonzero, m .state, has-durable) refl
+  ask-not-refused n full = refusal-checks tb e n act.Ask is-ask ∙ rw (sentences-sound tb s, eq-eqb n (tb .capacity) full, transaction-nonzero, manager-nonzero, m .state, has-durable) refl
 
 pub ask-accepted : AskAccepted
 unfolding AskAccepted Remembered afterRestart

@@ -2,7 +2,8 @@
 use borrow.Author.Needs.{needs}
 use mathlib.Core.Path.{refl}
 use Rattle.rules.specs.Events.{beginOf}
-use Rattle.refusals.specs.Checking.{beginChecks}
+use Rattle.rules.specs.Checks.{beginChecks}
+use Rattle.refusals.proofs.Found.{begin-found}
 use Rattle.rows.specs.Memory.{tableIn}
 use Rattle.entering.proofs.Done.{silent-does, done-does}
 use Rattle.entering.proofs.Entered.{begun-in}
@@ -23,12 +24,12 @@ begin-spec =
     let s = e .before .before .before .before .before in
     let a = s .args in
     let tb = tableIn (a .heads .now) (a .rows .now) (a .capacity) (a .used) in
-    let q = e .begin .ensures tb (e .before .before .before .place-named .ensures) (e .before .place-free .ensures) in
+    let q = begin-found tb (a .id) (e .begin .ensures) (e .before .before .before .place-named .ensures) (e .before .place-free .ensures) in
     done-does (a .heads .now) (a .rows .now) (a .capacity) (a .used) (beginChecks tb (a .id)) (beginOf (a .id) tb log) log (e .begin .result) q (c .before .before .before .if1 .taken) (c .before .put-transaction .ensures .0) (s .pre .long-rows) (begun-in (a .heads .now) (a .rows .now) (a .capacity) (a .used) (a .id) log (e .before .place-free .ensures) (c .before .put-transaction .ensures .1)) refl refl (c .silent .ensures))
     (λ c κs. search needs)
     (λ c log. let e = c .before .before in
     let s = e .before .before .before .before .before in
     let a = s .args in
     let tb = tableIn (a .heads .now) (a .rows .now) (a .capacity) (a .used) in
-    let q = e .begin .ensures tb (e .before .before .before .place-named .ensures) (e .before .place-free .ensures) in
+    let q = begin-found tb (a .id) (e .begin .ensures) (e .before .before .before .place-named .ensures) (e .before .place-free .ensures) in
     silent-does (a .heads .now) (a .rows .now) (a .capacity) (a .used) (beginChecks tb (a .id)) (beginOf (a .id) tb log) log (e .begin .result) (s .pre .long-heads) (s .pre .long-rows) q (c .before .if1 .left) (c .silent2 .ensures)))

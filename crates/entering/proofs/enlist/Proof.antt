@@ -7,7 +7,8 @@ use Rattle.rules.specs.declared.Name.the-variants as name
 use Rattle.rules.specs.Table.{placeNamed, stateAt}
 use Rattle.rules.specs.Signals.{rowOf, signal}
 use Rattle.rules.specs.Events.{kindOf, zeroAtOnce, enlistOf}
-use Rattle.refusals.specs.Checking.{enlistChecks}
+use Rattle.rules.specs.Checks.{enlistChecks}
+use Rattle.refusals.proofs.Found.{enlist-found}
 use Rattle.rows.specs.Memory.{tableIn}
 use Rattle.entering.proofs.Done.{silent-does, done-does}
 use Rattle.entering.proofs.Entered.{enlisted-in}
@@ -34,7 +35,7 @@ enlist-spec =
     let tb = tableIn (a .heads .now) (a .rows .now) (a .capacity) (a .used) in
     let named = e .before .before .before .before .before .before .before .place-named .ensures in
     let state = ap (λ x. x .state) (e .before .before .before .before .before .before .transaction-at .ensures) in
-    let q = e .enlist .ensures tb (kindOf (a .kind)) named state (λ z. rw (← e .before .before .before .before .before .kind-of .ensures) (e .before .before .before .finds-held .ensures (a .heads .now) (a .capacity) (a .used) z)) (e .before .finds-full .ensures (a .heads .now) (a .capacity) (a .used)) in
+    let q = enlist-found tb (a .id) (a .rm) (a .n) (kindOf (a .kind)) (e .enlist .ensures) named state (λ z. rw (← e .before .before .before .before .before .kind-of .ensures) (e .before .before .before .finds-held .ensures (a .heads .now) (a .capacity) (a .used) z)) (e .before .finds-full .ensures (a .heads .now) (a .capacity) (a .used)) in
     done-does (a .heads .now) (a .rows .now) (a .capacity) (a .used) (enlistChecks tb (a .id) (a .rm) (a .n) (kindOf (a .kind))) (enlistOf (placeNamed (a .id) tb) (a .n) (a .rm) (a .kind) (a .mark) tb log) log (e .enlist .result) q (c .before .before .before .before .before .before .before .if1 .taken) (s .pre .long-heads) (c .before .put-enlistment .ensures .0) (enlisted-in (a .heads .now) (a .rows .now) (a .capacity) (a .used) (a .id) log (a .n) (a .rm) (a .kind) (a .mark) named state (c .before .before .before .before .before .before .entry .ensures .0) (c .before .before .before .place-vacant .ensures) (c .before .put-enlistment .ensures .1)) (c .before .before .before .before .before .before .entry .ensures .1 ∙ ap (λ j. rowOf (cond (zeroAtOnce (a .kind) j) (signal name.Zero (a .n) ∷ []) [])) (state ∙ ap (λ p. stateAt p tb) named)) refl refl)
     (λ c κs. search needs)
     (λ c log. let e = c .before .before in
@@ -43,5 +44,5 @@ enlist-spec =
     let tb = tableIn (a .heads .now) (a .rows .now) (a .capacity) (a .used) in
     let named = e .before .before .before .before .before .before .before .place-named .ensures in
     let state = ap (λ x. x .state) (e .before .before .before .before .before .before .transaction-at .ensures) in
-    let q = e .enlist .ensures tb (kindOf (a .kind)) named state (λ z. rw (← e .before .before .before .before .before .kind-of .ensures) (e .before .before .before .finds-held .ensures (a .heads .now) (a .capacity) (a .used) z)) (e .before .finds-full .ensures (a .heads .now) (a .capacity) (a .used)) in
+    let q = enlist-found tb (a .id) (a .rm) (a .n) (kindOf (a .kind)) (e .enlist .ensures) named state (λ z. rw (← e .before .before .before .before .before .kind-of .ensures) (e .before .before .before .finds-held .ensures (a .heads .now) (a .capacity) (a .used) z)) (e .before .finds-full .ensures (a .heads .now) (a .capacity) (a .used)) in
     silent-does (a .heads .now) (a .rows .now) (a .capacity) (a .used) (enlistChecks tb (a .id) (a .rm) (a .n) (kindOf (a .kind))) (enlistOf (placeNamed (a .id) tb) (a .n) (a .rm) (a .kind) (a .mark) tb log) log (e .enlist .result) (s .pre .long-heads) (s .pre .long-rows) q (c .before .if1 .left) (c .silent .ensures)))

@@ -3,7 +3,7 @@ use borrow.Author.Needs.{needs}
 use mathlib.Core.List.{map}
 use Rattle.rules.specs.Table.{isVacant, held}
 use Rattle.rows.specs.Memory.{enlistmentIn}
-use Rattle.entering.proofs.Entered.{none-place}
+use Rattle.refusals.proofs.Laws.{none-place}
 use Rattle.entering.proofs.finds_full.Statement.{statement}
 use Rattle.entering.proofs.finds_full.Tie as tie
 

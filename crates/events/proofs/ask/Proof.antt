@@ -6,7 +6,8 @@ use borrow.Author.Tests.{eqb-true}
 use Rattle.rules.specs.Table.{placeNamed}
 use Rattle.rules.specs.Events.{askOf}
 use Rattle.rules.proofs.Local.{ask-through}
-use Rattle.refusals.specs.Checking.{askChecks}
+use Rattle.rules.specs.Checks.{askChecks}
+use Rattle.refusals.proofs.Found.{ask-found}
 use Rattle.holdings.proofs.Within.{passes-through}
 use Rattle.rows.specs.Memory.{tableIn}
 use Rattle.entering.proofs.Done.{silent-does}
@@ -52,7 +53,7 @@ ask-spec =
     let tb = tableIn (a .heads .now) (a .rows .now) (a .capacity) (a .used) in
     let k = known-takes (a .heads .now) (a .rows .now) (a .capacity) (a .used) (a .id) (a .rm) (s .pre) (e .place-named .ensures) (c .before .before .before .before .before .before .before .before .before .before .before .before .if1 .left) in
     let out = c .before .before .before .before .before .before .before .before .before .take-out .ensures (a .capacity) in
-    let q = c .before .before .before .before .before .ask .ensures tb (asked-state (a .heads .now) (a .rows .now) (a .capacity) (a .used) (a .id) (a .rm) (e .place-named .ensures) out) (λ o. asked-lacks (a .heads .now) (a .rows .now) (a .capacity) (a .used) (a .id) (a .rm) k (s .pre .long-heads) (e .place-named .ensures) out (c .before .before .before .before .before .before .before .before .undone .ensures)) in
+    let q = ask-found tb (a .id) (a .rm) (c .before .before .before .before .before .ask .ensures) (asked-state (a .heads .now) (a .rows .now) (a .capacity) (a .used) (a .id) (a .rm) (e .place-named .ensures) out) (λ o. asked-lacks (a .heads .now) (a .rows .now) (a .capacity) (a .used) (a .id) (a .rm) k (s .pre .long-heads) (e .place-named .ensures) out (c .before .before .before .before .before .before .before .before .undone .ensures)) in
     takes-does (a .heads .now) (a .rows .now) (a .capacity) (a .used) k out (askChecks tb (a .id) (a .rm)) (λ p t. askOf p (a .rm) t log) log (s .pre .long-heads) (ap (λ p. askOf p (a .rm) tb log) (sym (e .place-named .ensures))) q (c .before .before .before .before .if2 .taken) (λ there f. ask-through (passes-through tb _ there) (a .rm) _ log f) (c .before .before .before .ask2 .ensures log) (c .put-back .ensures))
     (λ c κs. search needs)
     (λ c log. let e = c .before .before .before .before .before .before .before .before .before .before in
@@ -61,5 +62,5 @@ ask-spec =
     let tb = tableIn (a .heads .now) (a .rows .now) (a .capacity) (a .used) in
     let k = known-takes (a .heads .now) (a .rows .now) (a .capacity) (a .used) (a .id) (a .rm) (s .pre) (e .place-named .ensures) (c .before .before .before .before .before .before .before .before .before .if1 .left) in
     let out = c .before .before .before .before .before .before .take-out .ensures (a .capacity) in
-    let q = c .before .before .ask .ensures tb (asked-state (a .heads .now) (a .rows .now) (a .capacity) (a .used) (a .id) (a .rm) (e .place-named .ensures) out) (λ o. asked-lacks (a .heads .now) (a .rows .now) (a .capacity) (a .used) (a .id) (a .rm) k (s .pre .long-heads) (e .place-named .ensures) out (c .before .before .before .before .before .undone .ensures)) in
+    let q = ask-found tb (a .id) (a .rm) (c .before .before .ask .ensures) (asked-state (a .heads .now) (a .rows .now) (a .capacity) (a .used) (a .id) (a .rm) (e .place-named .ensures) out) (λ o. asked-lacks (a .heads .now) (a .rows .now) (a .capacity) (a .used) (a .id) (a .rm) k (s .pre .long-heads) (e .place-named .ensures) out (c .before .before .before .before .before .undone .ensures)) in
     silent-does (a .heads .now) (a .rows .now) (a .capacity) (a .used) (askChecks tb (a .id) (a .rm)) (askOf (placeNamed (a .id) tb) (a .rm) tb log) log (c .before .before .ask .result) (s .pre .long-heads) (s .pre .long-rows) q (c .before .if2 .left) (c .silent .ensures)))

@@ -3,7 +3,7 @@ use borrow.Author.Needs.{needs}
 use mathlib.Core.Path.{ap}
 use lib.ListN.{length}
 use Rattle.rules.specs.Events.{acted}
-use Rattle.refusals.proofs.Events.{begin-refusal, enlist-refusal, commit-refusal, rollback-refusal, zero-done-refusal, vote-refusal, reply-refusal, ack-refusal, lost-refusal, ask-refusal, reenlisted-refusal}
+use Rattle.refusals.proofs.Events.{event-refusal}
 use Rattle.rows.specs.Memory.{tableIn}
 use Rattle.events.proofs.on_event.Statement.{statement}
 use Rattle.events.proofs.on_event.Tie as tie
@@ -39,62 +39,62 @@ on-event-spec =
     let a = s .args in
     let told = c .before .before .before .enum-told .given .1 in
     let tb = tableIn (a .heads .now) (a .rows .now) (a .capacity) (a .used) in
-    c .begin .ensures (a .log .now) (a .event) (begin-refusal tb (a .event) (length (a .log .now)) (s .pre .0 .sound) (s .pre .1) told) (ap (λ x. acted x (a .event .tx .0) (a .event .rm .0) tb (a .log .now)) told))
+    c .begin .ensures (a .log .now) (a .event) (event-refusal tb (a .event) (length (a .log .now)) (s .pre .0 .sound) (s .pre .1) _ told) (ap (λ x. acted x (a .event .tx .0) (a .event .rm .0) tb (a .log .now)) told))
     (λ c. let s = c .before .before .before .before .before .before .before .before .before .before .before in
     let a = s .args in
     let told = c .before .before .before .before .act .given .1 in
     let tb = tableIn (a .heads .now) (a .rows .now) (a .capacity) (a .used) in
-    c .enlist .ensures (a .log .now) (a .event) (enlist-refusal tb (a .event) (length (a .log .now)) (s .pre .0 .sound) (s .pre .1) _ _ _ told) (ap (λ x. acted x (a .event .tx .0) (a .event .rm .0) tb (a .log .now)) told))
+    c .enlist .ensures (a .log .now) (a .event) (event-refusal tb (a .event) (length (a .log .now)) (s .pre .0 .sound) (s .pre .1) _ told) (ap (λ x. acted x (a .event .tx .0) (a .event .rm .0) tb (a .log .now)) told))
     (λ c. search needs)
     (λ c. let s = c .before .before .before .before .before .before .before .before .before .before .before .before .before in
     let a = s .args in
     let told = c .before .before .before .before .before .before .enum-told2 .given .1 in
     let tb = tableIn (a .heads .now) (a .rows .now) (a .capacity) (a .used) in
-    c .before .before .commit .ensures (a .event) (commit-refusal tb (a .event) (length (a .log .now)) (s .pre .0 .sound) (s .pre .1) told) (ap (λ x. acted x (a .event .tx .0) (a .event .rm .0) tb (a .log .now)) told))
+    c .before .before .commit .ensures (a .event) (event-refusal tb (a .event) (length (a .log .now)) (s .pre .0 .sound) (s .pre .1) _ told) (ap (λ x. acted x (a .event .tx .0) (a .event .rm .0) tb (a .log .now)) told))
     (λ c. search needs)
     (λ c. let s = c .before .before .before .before .before .before .before .before .before .before .before .before .before .before in
     let a = s .args in
     let told = c .before .before .before .before .before .before .before .act2 .given .1 in
     let tb = tableIn (a .heads .now) (a .rows .now) (a .capacity) (a .used) in
-    c .before .before .about-one .ensures (a .event) (zero-done-refusal tb (a .event) (length (a .log .now)) (s .pre .0 .sound) (s .pre .1) _ told) (ap (λ x. acted x (a .event .tx .0) (a .event .rm .0) tb (a .log .now)) told))
+    c .before .before .about-one .ensures (a .event) (event-refusal tb (a .event) (length (a .log .now)) (s .pre .0 .sound) (s .pre .1) _ told) (ap (λ x. acted x (a .event .tx .0) (a .event .rm .0) tb (a .log .now)) told))
     (λ c. search needs)
     (λ c. let s = c .before .before .before .before .before .before .before .before .before .before .before .before .before .before in
     let a = s .args in
     let told = c .before .before .before .before .before .before .before .act3 .given .1 in
     let tb = tableIn (a .heads .now) (a .rows .now) (a .capacity) (a .used) in
-    c .before .before .about-one2 .ensures (a .event) (vote-refusal tb (a .event) (length (a .log .now)) (s .pre .0 .sound) (s .pre .1) _ _ told) (ap (λ x. acted x (a .event .tx .0) (a .event .rm .0) tb (a .log .now)) told))
+    c .before .before .about-one2 .ensures (a .event) (event-refusal tb (a .event) (length (a .log .now)) (s .pre .0 .sound) (s .pre .1) _ told) (ap (λ x. acted x (a .event .tx .0) (a .event .rm .0) tb (a .log .now)) told))
     (λ c. search needs)
     (λ c. let s = c .before .before .before .before .before .before .before .before .before .before .before .before .before in
     let a = s .args in
     let told = c .before .before .before .before .before .before .enum-told3 .given .1 in
     let tb = tableIn (a .heads .now) (a .rows .now) (a .capacity) (a .used) in
-    c .before .before .rollback .ensures (a .event) (rollback-refusal tb (a .event) (length (a .log .now)) (s .pre .0 .sound) (s .pre .1) told) (ap (λ x. acted x (a .event .tx .0) (a .event .rm .0) tb (a .log .now)) told))
+    c .before .before .rollback .ensures (a .event) (event-refusal tb (a .event) (length (a .log .now)) (s .pre .0 .sound) (s .pre .1) _ told) (ap (λ x. acted x (a .event .tx .0) (a .event .rm .0) tb (a .log .now)) told))
     (λ c. search needs)
     (λ c. let s = c .before .before .before .before .before .before .before .before .before .before .before .before .before .before in
     let a = s .args in
     let told = c .before .before .before .before .before .before .before .act4 .given .1 in
     let tb = tableIn (a .heads .now) (a .rows .now) (a .capacity) (a .used) in
-    c .before .before .about-one3 .ensures (a .event) (reply-refusal tb (a .event) (length (a .log .now)) (s .pre .0 .sound) (s .pre .1) _ _ told) (ap (λ x. acted x (a .event .tx .0) (a .event .rm .0) tb (a .log .now)) told))
+    c .before .before .about-one3 .ensures (a .event) (event-refusal tb (a .event) (length (a .log .now)) (s .pre .0 .sound) (s .pre .1) _ told) (ap (λ x. acted x (a .event .tx .0) (a .event .rm .0) tb (a .log .now)) told))
     (λ c. search needs)
     (λ c. let s = c .before .before .before .before .before .before .before .before .before .before .before .before .before .before in
     let a = s .args in
     let told = c .before .before .before .before .before .before .before .act5 .given .1 in
     let tb = tableIn (a .heads .now) (a .rows .now) (a .capacity) (a .used) in
-    c .before .before .about-one4 .ensures (a .event) (ack-refusal tb (a .event) (length (a .log .now)) (s .pre .0 .sound) (s .pre .1) _ told) (ap (λ x. acted x (a .event .tx .0) (a .event .rm .0) tb (a .log .now)) told))
+    c .before .before .about-one4 .ensures (a .event) (event-refusal tb (a .event) (length (a .log .now)) (s .pre .0 .sound) (s .pre .1) _ told) (ap (λ x. acted x (a .event .tx .0) (a .event .rm .0) tb (a .log .now)) told))
     (λ c. search needs)
     (λ c. let s = c .before .before .before .before .before .before .before .before .before .before .before .before .before .before in
     let a = s .args in
     let told = c .before .before .before .before .before .before .before .act6 .given .1 in
     let tb = tableIn (a .heads .now) (a .rows .now) (a .capacity) (a .used) in
-    c .before .before .about-one5 .ensures (a .event) (lost-refusal tb (a .event) (length (a .log .now)) (s .pre .0 .sound) (s .pre .1) _ told) (ap (λ x. acted x (a .event .tx .0) (a .event .rm .0) tb (a .log .now)) told))
+    c .before .before .about-one5 .ensures (a .event) (event-refusal tb (a .event) (length (a .log .now)) (s .pre .0 .sound) (s .pre .1) _ told) (ap (λ x. acted x (a .event .tx .0) (a .event .rm .0) tb (a .log .now)) told))
     (λ c. let s = c .before .before .before .before .before .before .before .before .before .before in
     let a = s .args in
     let told = c .before .before .before .enum-told4 .given .1 in
     let tb = tableIn (a .heads .now) (a .rows .now) (a .capacity) (a .used) in
-    c .ask .ensures (a .log .now) (a .event) (ask-refusal tb (a .event) (length (a .log .now)) (s .pre .0 .sound) (s .pre .1) told) (ap (λ x. acted x (a .event .tx .0) (a .event .rm .0) tb (a .log .now)) told))
+    c .ask .ensures (a .log .now) (a .event) (event-refusal tb (a .event) (length (a .log .now)) (s .pre .0 .sound) (s .pre .1) _ told) (ap (λ x. acted x (a .event .tx .0) (a .event .rm .0) tb (a .log .now)) told))
     (λ c. search needs)
     (λ c. let s = c .before .before .before .before .before .before .before .before .before .before .before .before .before in
     let a = s .args in
     let told = c .before .before .before .before .before .before .enum-told5 .given .1 in
     let tb = tableIn (a .heads .now) (a .rows .now) (a .capacity) (a .used) in
-    c .before .before .reenlisted .ensures (a .event) (reenlisted-refusal tb (a .event) (length (a .log .now)) (s .pre .0 .sound) (s .pre .1) told) (ap (λ x. acted x (a .event .tx .0) (a .event .rm .0) tb (a .log .now)) told)))
+    c .before .before .reenlisted .ensures (a .event) (event-refusal tb (a .event) (length (a .log .now)) (s .pre .0 .sound) (s .pre .1) _ told) (ap (λ x. acted x (a .event .tx .0) (a .event .rm .0) tb (a .log .now)) told)))

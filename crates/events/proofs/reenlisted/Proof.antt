@@ -3,7 +3,8 @@ use borrow.Author.Needs.{needs}
 use mathlib.Core.Path.{sym, ap}
 use Rattle.rules.specs.Signals.{rowOf}
 use Rattle.rules.specs.Events.{reenlistedOf}
-use Rattle.refusals.specs.Checking.{reenlistedChecks}
+use Rattle.rules.specs.Checks.{reenlistedChecks}
+use Rattle.refusals.proofs.Found.{reenlisted-found}
 use Rattle.reenlisting.proofs.Laws.{reenlisted-quiet}
 use Rattle.rows.specs.Memory.{tableIn}
 use Rattle.entering.proofs.Done.{silent-does, done-does}
@@ -25,7 +26,7 @@ reenlisted-spec =
     let s = e .before .before .before .before .before .before in
     let a = s .args in
     let tb = tableIn (a .heads .now) (a .rows .now) (a .capacity) (a .used) in
-    let q = e .reenlisted .ensures tb (elsewhere-any (a .rm) tb (e .before .place-elsewhere .ensures) (e .before .before .table-in .ensures)) in
+    let q = reenlisted-found tb (a .rm) (e .reenlisted .ensures) (elsewhere-any (a .rm) tb (e .before .place-elsewhere .ensures) (e .before .before .table-in .ensures)) in
     let l = c .before .before .before .reenlisted2 .ensures in
     done-does (a .heads .now) (a .rows .now) (a .capacity) (a .used) (reenlistedChecks tb (a .rm)) (reenlistedOf (a .rm) tb (a .log .now)) (a .log .now) (e .reenlisted .result) q (c .before .before .before .before .before .before .before .if1 .taken) (l .heads-long) (l .rows-long) (l .table) (ap rowOf (sym (reenlisted-quiet (a .rm) tb (a .log .now)))) (l .log) (c .silent .ensures))
     (λ c κs. search needs)
@@ -33,5 +34,5 @@ reenlisted-spec =
     let s = e .before .before .before .before .before .before in
     let a = s .args in
     let tb = tableIn (a .heads .now) (a .rows .now) (a .capacity) (a .used) in
-    let q = e .reenlisted .ensures tb (elsewhere-any (a .rm) tb (e .before .place-elsewhere .ensures) (e .before .before .table-in .ensures)) in
+    let q = reenlisted-found tb (a .rm) (e .reenlisted .ensures) (elsewhere-any (a .rm) tb (e .before .place-elsewhere .ensures) (e .before .before .table-in .ensures)) in
     silent-does (a .heads .now) (a .rows .now) (a .capacity) (a .used) (reenlistedChecks tb (a .rm)) (reenlistedOf (a .rm) tb (a .log .now)) (a .log .now) (e .reenlisted .result) (s .pre .0 .long-heads) (s .pre .0 .long-rows) q (c .before .if1 .left) (c .silent2 .ensures)))

@@ -2,7 +2,7 @@
 use borrow.Author.Needs.{needs}
 use Rattle.rules.specs.Events.{reactionOf}
 use Rattle.rules.specs.Refusals.{firstOf}
-use Rattle.refusals.proofs.Laws.{held-has, reaction-last}
+use Rattle.refusals.proofs.Laws.{reaction-last}
 use Rattle.refusals.proofs.about_one.Statement.{statement}
 use Rattle.refusals.proofs.about_one.Tie as tie
 
@@ -11,11 +11,11 @@ unfolding firstOf
 about-one-spec =
     tie.close
     (tie.spec
-    (λ c tb p. rw (c .if1 .taken))
-    (λ c tb p. rw (c .before .before .if1 .left, held-has (c .before .before .before .args .n) tb (c .before .before .if1 .left), ← p, c .if2 .taken))
+    (λ c. rw (c .if1 .taken))
+    (λ c. rw (c .before .before .if1 .left, c .if2 .taken))
     (λ c κs. search needs)
     (λ c κs. search needs)
-    (λ c tb p. let e = c .before .before in
+    (λ c. let e = c .before .before in
     let a = e .before .before .before .args in
-    rw (e .before .before .if1 .left, held-has (a .n) tb (e .before .before .if1 .left), ← p, e .if2 .left, c .refusal-of .ensures, c .before .reaction .ensures)
+    rw (e .before .before .if1 .left, e .if2 .left, c .refusal-of .ensures, c .before .reaction .ensures)
     (reaction-last (reactionOf (a .e .kind) (a .e .state) (a .act)))))

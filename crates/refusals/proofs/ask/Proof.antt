@@ -1,5 +1,4 @@
 -- A return stands behind the failed tests of the checks in front of its own, so that its own is the first that applies.
-use mathlib.Core.Path.{sym, _∙_}
 use borrow.Author.Needs.{needs}
 use Rattle.rules.specs.Refusals.{firstOf}
 use Rattle.refusals.proofs.ask.Statement.{statement}
@@ -11,8 +10,8 @@ ask-spec =
     tie.close
     (tie.spec
     (λ c κs. search needs)
-    (λ c tb p q. rw (← c .before .is-either-zero .ensures, c .if1 .taken))
+    (λ c. rw (← c .before .is-either-zero .ensures, c .if1 .taken))
     (λ c κs. search needs)
-    (λ c tb p q. rw (← c .before .before .before .is-either-zero .ensures, c .before .before .if1 .left, ← p, ← c .before .is-over .ensures, c .if2 .taken))
-    (λ c tb p q. rw (← c .before .before .before .before .is-either-zero .ensures, c .before .before .before .if1 .left, ← p, ← c .before .before .is-over .ensures, c .before .if2 .left, ← q (sym (c .before .before .is-over .ensures) ∙ c .before .if2 .left), c .if3 .taken))
-    (λ c tb p q. rw (← c .before .before .before .before .is-either-zero .ensures, c .before .before .before .if1 .left, ← p, ← c .before .before .is-over .ensures, c .before .if2 .left, ← q (sym (c .before .before .is-over .ensures) ∙ c .before .if2 .left), c .if3 .left)))
+    (λ c. rw (← c .before .before .before .is-either-zero .ensures, c .before .before .if1 .left, ← c .before .is-over .ensures, c .if2 .taken))
+    (λ c. rw (← c .before .before .before .before .is-either-zero .ensures, c .before .before .before .if1 .left, ← c .before .before .is-over .ensures, c .before .if2 .left, c .if3 .taken))
+    (λ c. rw (← c .before .before .before .before .is-either-zero .ensures, c .before .before .before .if1 .left, ← c .before .before .is-over .ensures, c .before .if2 .left, c .if3 .left)))

@@ -11,7 +11,7 @@ commit-spec =
     tie.close
     (tie.spec
     (λ c κs. search needs)
-    (λ c tb p q. rw (sym (c .before .is-zero .ensures) ∙ c .if1 .taken))
-    (λ c tb p q. rw (sym (c .before .before .is-zero .ensures) ∙ c .before .if1 .left, ← p, c .if2 .taken))
-    (λ c tb p q. rw (sym (c .before .before .before .is-zero .ensures) ∙ c .before .before .if1 .left, ← p, c .before .if2 .left, ← q, c .if3 .taken))
-    (λ c tb p q. rw (sym (c .before .before .before .is-zero .ensures) ∙ c .before .before .if1 .left, ← p, c .before .if2 .left, ← q, c .if3 .left)))
+    (λ c. rw (sym (c .before .is-zero .ensures) ∙ c .if1 .taken))
+    (λ c. rw (sym (c .before .before .is-zero .ensures) ∙ c .before .if1 .left, c .if2 .taken))
+    (λ c. rw (sym (c .before .before .before .is-zero .ensures) ∙ c .before .before .if1 .left, c .before .if2 .left, c .if3 .taken))
+    (λ c. rw (sym (c .before .before .before .is-zero .ensures) ∙ c .before .before .if1 .left, c .before .if2 .left, c .if3 .left)))

@@ -11,6 +11,6 @@ reenlisted-spec =
     tie.close
     (tie.spec
     (λ c κs. search needs)
-    (λ c tb p. rw (sym (c .before .is-zero .ensures) ∙ c .if1 .taken))
-    (λ c tb p. rw (sym (c .before .before .is-zero .ensures) ∙ c .before .if1 .left, ← p, c .if2 .taken))
-    (λ c tb p. rw (sym (c .before .before .is-zero .ensures) ∙ c .before .if1 .left, ← p, c .if2 .left)))
+    (λ c. rw (sym (c .before .is-zero .ensures) ∙ c .if1 .taken))
+    (λ c. rw (sym (c .before .before .is-zero .ensures) ∙ c .before .if1 .left, c .if2 .taken))
+    (λ c. rw (sym (c .before .before .is-zero .ensures) ∙ c .before .if1 .left, c .if2 .left)))
