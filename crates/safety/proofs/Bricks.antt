@@ -12,7 +12,7 @@ use lib.Dec.{eqb, ltb}
 use borrow.Author.Tests.{le-ltb, ltb-true, ltb-false, eq-eqb}
 use Rattle.lists.specs.Lists.{filter}
 use Rattle.lists.specs.Members.{Each, Apart}
-use Rattle.lists.proofs.Tests.{by-test, by-either, no-clash, is-false, and-true, true-and, or-false, false-or, not-false, false-not, each-nothing, each-head, each-rest, filter-all}
+use Rattle.lists.proofs.Tests.{by-cases, by-test, by-either, no-clash, is-false, and-true, true-and, or-false, false-or, not-false, false-not, each-nothing, each-head, each-rest, filter-all}
 use Rattle.lists.proofs.Apart.{apart-head, apart-rest}
 use Rattle.rules.specs.declared.Table.{Table}
 use Rattle.rules.specs.declared.Event.{Event}
@@ -34,12 +34,11 @@ use Rattle.safety.specs.Run.{Run, start, step, store, trim, leave, resta
 use Rattle.safety.specs.Beyond.{NeverBricked}
 use Rattle.safety.proofs.Alone.{none}
 use Rattle.safety.proofs.Top.{Alive, Always, always, agrees}
-use Rattle.safety.proofs.Story.{storyOf, Formed, story-formed, mine, tells, valid-both}
+use Rattle.safety.proofs.Story.{storyOf, Formed, story-formed, nothing-mine, tells, valid-both}
 use Rattle.safety.proofs.View.{viewOf}
 use Rattle.safety.proofs.Open.{Fit, fit-nothing, fit-record, fit-all, open-both, fitting-both}
 use Rattle.safety.proofs.Fitting.{Ready}
 use Rattle.safety.proofs.Reopened.{reopened-sound}
-use Rattle.safety.proofs.Own.{by-cases}
 use Rattle.safety.proofs.Steps.{Written, step-writes, step-refuses, step-needs-sound, zero-unsound}
 use Rattle.safety.proofs.Lengths.{Same, step-same}
 use Rattle.safety.proofs.Restarts as restarts
@@ -86,10 +85,6 @@ abbrev Kept : Table → List ℕ → Type 0
 Kept tb log = (tb .used ≡ 0) ⊎ Readable tb log
 
 -- ── a step ──────────────────────────────────────────────────────────────────────────────────────────────────────
-
-nothing-mine : (t : Id) → mine t [] ≡ []
-unfolding mine filter
-nothing-mine t = refl
 
 ready : (w : World) → Alive refines w → (g : Readable (w .table) (w .log)) → soundOf (w .table) ≡ true → Ready (w .table) (w .log) (openAfter [] (g .formed .records))
 unfolding refines

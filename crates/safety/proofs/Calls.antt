@@ -11,7 +11,7 @@ use borrow.Author.Tests.{eqb-true, eqb-false, ne-eqb}
 use Rattle.lists.specs.Members.{_∈_, Each, Some}
 use Rattle.lists.specs.Lists.{any, filter, firstOr}
 use Rattle.lists.specs.Places.{placeOf, putLowest}
-use Rattle.lists.proofs.Tests.{by-test, by-either, no-clash, is-false, true-or, none-each, first-passes, first-none}
+use Rattle.lists.proofs.Tests.{by-cases, by-test, by-either, no-clash, is-false, true-or, none-each, first-passes, first-none}
 use Rattle.lists.proofs.Places.{IsFirst, place-first, put-is, put-there, put-keeps, of-put, filter-put}
 use Rattle.rules.specs.declared.Transaction.{Transaction}
 use Rattle.rules.specs.declared.Enlistment.{Enlistment}
@@ -45,7 +45,7 @@ use Rattle.safety.proofs.Top.{Agrees}
 use Rattle.safety.proofs.View.{viewOf, look, view-in, view-stands, view-absent, view-same, view-goes, goes-other, view-changes, view-held-other, state-none}
 use Rattle.safety.proofs.Given.{stands-sound, owner-held}
 use Rattle.safety.proofs.Messages.{notCommitted, notAborted, Only, only-nothing, only-one, only-each, Addressed, Owned, addressed-nothing, addressed-one, addressed-neutral, none-committed, none-aborted, quiet}
-use Rattle.safety.proofs.Own.{by-cases, Own, unwritten, unlogged, used-goes, own-abort, own-start}
+use Rattle.safety.proofs.Own.{Own, unwritten, unlogged, used-goes, own-abort, own-start}
 use Rattle.safety.proofs.Reactions.{held-votes, untouched}
 
 -- a change of the transaction at p is none of one that stands elsewhere

@@ -11,7 +11,7 @@ use borrow.Author.Tests.{eqb-true, eqb-false, ne-eqb}
 use Rattle.lists.specs.Members.{_∈_, Each, Some}
 use Rattle.lists.specs.Lists.{any, filter}
 use Rattle.lists.specs.Places.{placeOf, atFrom, at, changeFrom, placesFrom}
-use Rattle.lists.proofs.Tests.{and-true, any-some, by-either, by-test, each-more, each-nothing, false-not, in-filter, is-false, no-clash, some-any, true-and}
+use Rattle.lists.proofs.Tests.{by-cases, and-true, any-some, by-either, by-test, each-more, each-nothing, false-not, in-filter, is-false, no-clash, some-any, true-and}
 use Rattle.rules.specs.declared.Transaction.{Transaction}
 use Rattle.rules.specs.declared.Enlistment.{Enlistment}
 use Rattle.rules.specs.declared.Table.{Table}
@@ -32,7 +32,6 @@ use Rattle.safety.proofs.Open.{open-both, fitting-both}
 use Rattle.safety.proofs.Fitting.{forget-fit, one-forgotten}
 use Rattle.safety.proofs.View.{state-none, viewOf, look, view-absent, ends-other, freed-keeps}
 use Rattle.safety.proofs.Given.{Sized}
-use Rattle.safety.proofs.Own.{by-cases}
 
 -- ── how many places pass ────────────────────────────────────────────────────────────────────────────────────────
 

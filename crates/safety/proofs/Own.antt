@@ -4,7 +4,7 @@ use Prim.Native.Nat.{ℕ, _+_, _*_, _-_, _≤_, _<_}
 use native.Mathlib.Omega.{arith}
 use mathlib.Core.Path.{_≡_, refl, sym, _∙_, ap, ap₂}
 use mathlib.Core.Logic.{_⊎_, inl, inr}
-use mathlib.Core.Bool.{Bool, true, false, cond, _&&_}
+use mathlib.Core.Bool.{true, false, _&&_}
 use mathlib.Core.List.{List, [], _∷_, _++_, map, append-nil, List·Memᴰ·head, List·Memᴰ·cases-cons, List·Memᴰ·not-nil, Memᴰ·cast}
 use lib.ListN.{length, take, length-append, length-map}
 use lib.Dec.{eqb}
@@ -12,7 +12,7 @@ use borrow.Author.Tests.{eqb-true, eqb-false, eq-eqb, ne-eqb, ltb-false}
 use Rattle.lists.specs.Members.{_∈_, Each, Some, Apart}
 use Rattle.lists.specs.Lists.{all, any, none, filter}
 use Rattle.lists.specs.Sorting.{insertBy, sortBy}
-use Rattle.lists.proofs.Tests.{by-test, by-either, no-clash, true-and, not-true, not-false, in-filter, of-filter, length-filter, in-map, of-map, all-each, any-some, some-any, none-each, each-nothing, each-more, each-head, each-rest, each-map}
+use Rattle.lists.proofs.Tests.{by-cases, by-test, by-either, no-clash, true-and, not-true, not-false, in-filter, of-filter, length-filter, in-map, of-map, all-each, any-some, some-any, none-each, each-nothing, each-more, each-head, each-rest, each-map}
 use Rattle.lists.proofs.Sorting.{in-sort, of-sort, length-sort}
 use Rattle.lists.proofs.Apart.{apart-filter, apart-sort}
 use Rattle.rules.specs.declared.Enlistment.{Enlistment}
@@ -47,10 +47,6 @@ use Rattle.safety.proofs.View.{viewOf, look, view-stands, view-goes, go
 use Rattle.safety.proofs.Open.{FitCommit, fits-commit}
 use Rattle.safety.proofs.Fitting.{Ready, Judged, judged-nothing, mine-none, told-open, open-shown, shown-open, open-count, commit-fit, live-nonzero, forget-fit, one-forgotten}
 use Rattle.safety.proofs.Messages.{notCommitted, notAborted, Only, only-nothing, only-one, only-each, only-both, Addressed, Owned, owned-about, addressed-nothing, addressed-one, addressed-each, addressed-both, none-committed, none-aborted, quiet}
-
-pub by-cases : {A : Type 0} (P : A → Type 0) (b : Bool) (x y : A) → (b ≡ true → P x) → (b ≡ false → P y) → P (cond b x y)
-by-cases P true x y f g = f refl
-by-cases P false x y f g = g refl
 
 -- ── what is shown of an outcome ─────────────────────────────────────────────────────────────────────────────────
 

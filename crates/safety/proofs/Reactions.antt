@@ -12,7 +12,7 @@ use lib.Dec.{eqb}
 use borrow.Author.Tests.{eqb-true, eqb-false, eq-eqb, ne-eqb}
 use Rattle.lists.specs.Members.{_∈_, Some, Apart}
 use Rattle.lists.specs.Lists.{any, filter}
-use Rattle.lists.proofs.Tests.{by-test, by-either, no-clash, and-true, true-and, true-or, not-true, false-not, any-some, some-any, none-each, filter-filter}
+use Rattle.lists.proofs.Tests.{by-cases, by-test, by-either, no-clash, and-true, true-and, true-or, not-true, false-not, any-some, some-any, none-each, filter-filter}
 use Rattle.lists.proofs.Places.{in-places}
 use Rattle.lists.proofs.Apart.{apart-narrower, apart-changed}
 use Rattle.rules.specs.declared.Enlistment.{Enlistment}
@@ -54,7 +54,7 @@ use Rattle.safety.proofs.Top.{Agrees}
 use Rattle.safety.proofs.View.{viewOf, look, view-in, view-changes, view-held-other, view-ends, state-held, stands-held}
 use Rattle.safety.proofs.Given.{id-size, owner-held, Row, in-active, in-zero, in-voting, in-single, in-commit, in-abort, Named}
 use Rattle.safety.proofs.Messages.{notCommitted, notAborted, only-nothing, only-one, Owned, addressed-nothing, addressed-one, none-committed, none-aborted, quiet}
-use Rattle.safety.proofs.Own.{by-cases, Own, Touched, unlogged, unlogged-end, ends-for, own-abort, Voted, own-decide, own-end-aborting, own-end-committing, own-start}
+use Rattle.safety.proofs.Own.{Own, Touched, unlogged, unlogged-end, ends-for, own-abort, Voted, own-decide, own-end-aborting, own-end-committing, own-start}
 
 -- ── the state of the transaction, by that of its enlistment ─────────────────────────────────────────────────────
 

@@ -5,14 +5,14 @@ use native.Mathlib.Omega.{arith}
 use mathlib.Core.Path.{_≡_, refl, sym, _∙_, ap}
 use mathlib.Core.Logic.{_⊎_, inl, inr}
 use mathlib.Core.Bool.{Bool, true, false, _&&_}
-use mathlib.Core.List.{List, [], _∷_, map, List·Memᴰ·not-nil}
+use mathlib.Core.List.{List, [], _∷_, map}
 use lib.ListN.{length}
 use lib.Dec.{eqb}
 use borrow.Author.Tests.{eqb-true, eqb-false, eq-eqb}
 use Rattle.lists.specs.Members.{_∈_, Each, Some}
 use Rattle.lists.specs.Lists.{all, any, filter}
 use Rattle.lists.specs.Places.{placesFrom, placesWhere}
-use Rattle.lists.proofs.Tests.{by-test, by-either, no-clash, is-false, true-and, in-map, of-map, each-head, each-rest, all-each, some-any, any-some}
+use Rattle.lists.proofs.Tests.{by-cases, by-test, by-either, no-clash, is-false, true-and, in-map, of-map, each-head, each-rest, all-each, some-any, any-some}
 use Rattle.lists.proofs.Places.{in-places, of-places}
 use Rattle.lists.proofs.Sorting.{in-sort, of-sort}
 use Rattle.rules.specs.declared.Transaction.{Transaction}
@@ -32,12 +32,11 @@ use Rattle.safety.specs.World.{Note}
 use Rattle.safety.specs.Host.{Closes}
 use Rattle.safety.proofs.Alone as alone
 use Rattle.safety.proofs.Alone.{Story, closed, View, out, Waits, NoDurable}
-use Rattle.safety.proofs.Move.{Quiet, Calm, calm-note, Move, stay, told-on, end-logged}
+use Rattle.safety.proofs.Move.{quiet-nothing, Calm, calm-note, Move, stay, told-on, end-logged}
 use Rattle.safety.proofs.Top.{Agrees}
 use Rattle.safety.proofs.Story.{story, onForget}
 use Rattle.safety.proofs.View.{viewOf, look, view-in, view-stands, view-absent}
 use Rattle.safety.proofs.Given.{stands-sound, id-size, row}
-use Rattle.safety.proofs.Own.{by-cases}
 use Rattle.safety.proofs.Reactions.{live, of-commit}
 use Rattle.safety.proofs.Fitting.{Ready, Judged, told-open, live-nonzero}
 use Rattle.safety.proofs.Ends.{Roomy, Seen, forgets, each-other, each-own, Forgettable, each-fits, open-live, live-open}
@@ -152,9 +151,6 @@ module _ (r : Id) (tb : Table) (log : List ℕ) (s : Sound tb) (full : length lo
     abbrev pub M : View → View → Type 0
     M v w = Move t h (Note.reenlisted r) [] l (story t l (forgets ps after log)) v w
 
-    silent : Quiet t []
-    silent = record { no-committed = λ m. List·Memᴰ·not-nil (m .there); no-aborted = λ m. List·Memᴰ·not-nil (m .there) }
-
     calm : Calm t (Note.reenlisted r)
     calm = calm-note t (Note.reenlisted r) refl
 
@@ -162,7 +158,7 @@ module _ (r : Id) (tb : Table) (log : List ℕ) (s : Sound tb) (full : length lo
     Result = viewOf t (endEach ps after log .table)
 
     stays : (v : View) → viewOf t tb ≡ v → Seen t ps after log v (λ k. k) → M (viewOf t tb) Result
-    stays v e w = rw (e, w .view) (stay (w .tale l) calm silent)
+    stays v e w = rw (e, w .view) (stay (w .tale l) calm (quiet-nothing t))
 
     -- it is not live
     dead : Absent t tb → M (viewOf t tb) Result
@@ -231,7 +227,7 @@ module _ (r : Id) (tb : Table) (log : List ℕ) (s : Sound tb) (full : length lo
         is-closed (inr (q, y)) = absurd (y (has-durable .it) (has-durable .there) (has-durable .holds))
 
         ends : M (viewOf t tb) Result
-        ends = rw (now, w .view) (end-logged (w .tale l ∙ is-closed (rw now at agrees)) calm silent all-close)
+        ends = rw (now, w .view) (end-logged (w .tale l ∙ is-closed (rw now at agrees)) calm (quiet-nothing t) all-close)
           where
             now : viewOf t tb ≡ alone.committing hs
             now = view-now ∙ ap (λ n. look n hs) five
@@ -247,7 +243,7 @@ module _ (r : Id) (tb : Table) (log : List ℕ) (s : Sound tb) (full : length lo
 
         goes-on : stateAt p tb ≡ transaction.committing → M (viewOf t tb) Result
         goes-on five = rw (view-now ∙ ap (λ n. look n hs) five, seen .view ∙ ap (λ n. look n (map (doneFor r) hs)) five)
-            (told-on (seen .tale l) calm (silent .no-aborted)
+            (told-on (seen .tale l) calm (quiet-nothing t .no-aborted)
             (λ q w. by-either (λ v. inl (record { it = doneFor r (w .it); there = in-map (doneFor r) (w .there); holds = v })) (λ e. inr (inr (ap Note.reenlisted (sym e)))) (done-waits r q (w .it) (w .holds)))
             (λ w. record { it = doneFor r (w .it); there = in-map (doneFor r) (w .there); holds = done-kept r (w .it) .1 ∙ w .holds })
             (λ no-durable e m d. let c : Some (λ w. doneFor r w ≡ e) hs = of-map (doneFor r) hs m in no-durable (c .it) (c .there) (sym (done-kept r (c .it) .1) ∙ ap (λ (w : Enlistment). w .kind) (c .holds) ∙ d))

@@ -120,6 +120,10 @@ module _ (t : Id) where
   unfoldable pub mine : List Open → List Open
   mine os = filter (isOpenAs t) os
 
+  pub nothing-mine : mine [] ≡ []
+  unfolding mine filter
+  nothing-mine = refl
+
   abbrev pub Tells : Story → List Open → Type 0
   Tells none os = mine os ≡ []
   Tells (open-with rs) os = (o : Open) × (mine os ≡ o ∷ []) × (o .entries ≡ rs) × (0 < length (o .entries))
