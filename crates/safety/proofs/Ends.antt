@@ -11,7 +11,7 @@ use borrow.Author.Tests.{eqb-true, eqb-false, ne-eqb}
 use Rattle.lists.specs.Members.{_∈_, Each, Some}
 use Rattle.lists.specs.Lists.{any, filter}
 use Rattle.lists.specs.Places.{placeOf, atFrom, at, changeFrom, placesFrom}
-use Rattle.lists.proofs.Tests.{by-cases, and-true, any-some, by-either, by-test, each-more, each-nothing, false-not, in-filter, is-false, no-clash, some-any, true-and}
+use Rattle.lists.proofs.Tests.{by-cases, and-true, any-some, by-either, by-test, each-nothing, false-not, in-filter, is-false, no-clash, some-any, true-and, each-both, each-one}
 use Rattle.rules.specs.declared.Transaction.{Transaction}
 use Rattle.rules.specs.declared.Enlistment.{Enlistment}
 use Rattle.rules.specs.declared.Table.{Table}
@@ -27,7 +27,7 @@ use Rattle.rules.proofs.Identifiers.{same-refl, same-equal, other-not-same}
 use Rattle.rules.proofs.Records.{Valid, valid-forget, all-append}
 use Rattle.rules.proofs.Frames.{held-other, held-transaction, named-is, Stands, Absent, at-other, at-changed, absent-ended, unnamed-ended, written-used, length-written, not-zero, named-place}
 use Rattle.safety.proofs.Alone.{Story, View, out}
-use Rattle.safety.proofs.Story.{next, story, story-append, onForget, valid-both}
+use Rattle.safety.proofs.Story.{next, story, story-append, onForget}
 use Rattle.safety.proofs.Open.{open-both, fitting-both}
 use Rattle.safety.proofs.Fitting.{forget-fit, one-forgotten}
 use Rattle.safety.proofs.View.{state-none, viewOf, look, view-absent, ends-other, freed-keeps}
@@ -132,7 +132,7 @@ module _ (p : ℕ) (tb : Table) (log : List ℕ) where
   module _ (g : Roomy tb log) where
     ends-valid : Each Valid (forgetOf p tb)
     unfolding forgetOf
-    ends-valid = by-test (isOpen (stateAt p tb) (held p tb)) (λ b. rw b (each-more (valid-forget (g .sized p (open-live p tb b))) (each-nothing Valid))) (λ b. rw b (each-nothing Valid))
+    ends-valid = by-test (isOpen (stateAt p tb) (held p tb)) (λ b. rw b (each-one Valid (valid-forget (g .sized p (open-live p tb b))))) (λ b. rw b (each-nothing Valid))
 
     forget-length : isOpen (stateAt p tb) (held p tb) ≡ true → length (recordBytes (Record.forget (idAt p tb))) ≡ forgetSize
     forget-length b = forget-size (idAt p tb) (g .sized p (open-live p tb b))
@@ -227,7 +227,7 @@ forgets (p ∷ ps) tb log = forgetOf p tb ++ forgets ps (endOf p tb log .table) 
 pub each-valid : (ps : List ℕ) (tb : Table) (log : List ℕ) → Roomy tb log → Each Valid (forgets ps tb log)
 unfolding forgets
 each-valid [] tb log g = each-nothing Valid
-each-valid (p ∷ ps) tb log g = valid-both (forgetOf p tb) (forgets ps (endOf p tb log .table) (endOf p tb log .log)) (ends-valid p tb log g) (each-valid ps (endOf p tb log .table) (endOf p tb log .log) (ends-roomy p tb log g))
+each-valid (p ∷ ps) tb log g = each-both (forgetOf p tb) (forgets ps (endOf p tb log .table) (endOf p tb log .log)) (ends-valid p tb log g) (each-valid ps (endOf p tb log .table) (endOf p tb log .log) (ends-roomy p tb log g))
 
 pub each-bytes : (ps : List ℕ) (tb : Table) (log : List ℕ) → Roomy tb log → take (endEach ps tb log .table .used) (endEach ps tb log .log) ≡ take (tb .used) log ++ allBytes (forgets ps tb log)
 unfolding endEach forgets allBytes

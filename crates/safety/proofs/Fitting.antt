@@ -12,7 +12,7 @@ use borrow.Author.Tests.{eqb-false, eq-eqb, ne-eqb, lt-ltb, ltb-true, ltb-false}
 use Rattle.lists.specs.Lists.{any, filter}
 use Rattle.lists.specs.Members.{_∈_, Each, Some, Apart, nothing, more}
 use Rattle.lists.specs.Places.{placesWhere}
-use Rattle.lists.proofs.Tests.{by-test, by-either, no-clash, is-false, not-true, each-rest, in-filter, of-filter, in-map, of-map, any-some, some-any, count-filter, length-filter, each-none, apart-differ}
+use Rattle.lists.proofs.Tests.{by-test, by-either, no-clash, is-false, not-true, each-rest, in-filter, of-filter, in-map, of-map, any-some, some-any, count-filter, length-filter, each-none, apart-differ, in-one}
 use Rattle.lists.proofs.Places.{at-member, in-places, length-places}
 use Rattle.lists.proofs.Sorting.{Sorted, sorted-more}
 use Rattle.lists.proofs.Apart.{apart-head, apart-rest, apart-both, apart-map, no-more}
@@ -66,9 +66,6 @@ pub record OpenAt (o : Open) (tb : Table) : Type 0 where
   pub state : stateAt (placeNamed (o .id) tb) tb ≡ transaction.committing
   pub durable : Some Durable (held (placeNamed (o .id) tb) tb)
   pub entered : Entered (o .entries) (held (placeNamed (o .id) tb) tb)
-
-in-one : {A : Type 0} {x y : A} → x ∈ y ∷ [] → x ≡ y
-in-one m = by-either (λ e. e) (λ i. absurd (List·Memᴰ·not-nil i)) (List·Memᴰ·cases-cons m)
 
 pub mine-none : (u : Id) (os : List Open) → mine u os ≡ [] → any (isOpenAs u) os ≡ false
 unfolding mine

@@ -1,18 +1,18 @@
 -- An event changes the state of one transaction and of what it holds: so it is a move of that one, and leaves every other one alone, of which neither place nor
 -- record changes. Here of the parts that the events share: abort, decide, the end, start of phase one.
-use Prim.Native.Nat.{ℕ, _+_, _*_, _-_, _≤_, _<_}
+use Prim.Native.Nat.{ℕ, _+_, _*_, _-_, _≤_}
 use native.Mathlib.Omega.{arith}
 use mathlib.Core.Path.{_≡_, refl, sym, _∙_, ap, ap₂}
 use mathlib.Core.Logic.{_⊎_, inl, inr}
 use mathlib.Core.Bool.{true, false, _&&_}
-use mathlib.Core.List.{List, [], _∷_, _++_, map, append-nil, List·Memᴰ·head, List·Memᴰ·cases-cons, List·Memᴰ·not-nil, Memᴰ·cast}
+use mathlib.Core.List.{List, [], _∷_, _++_, map, append-nil, List·Memᴰ·head, List·Memᴰ·not-nil, Memᴰ·cast}
 use lib.ListN.{length, take, length-append, length-map}
 use lib.Dec.{eqb}
 use borrow.Author.Tests.{eqb-true, eqb-false, eq-eqb, ne-eqb, ltb-false}
 use Rattle.lists.specs.Members.{_∈_, Each, Some, Apart}
 use Rattle.lists.specs.Lists.{all, any, none, filter}
 use Rattle.lists.specs.Sorting.{insertBy, sortBy}
-use Rattle.lists.proofs.Tests.{by-cases, by-test, by-either, no-clash, true-and, not-true, not-false, in-filter, of-filter, length-filter, in-map, of-map, all-each, any-some, some-any, none-each, each-nothing, each-more, each-head, each-rest, each-map}
+use Rattle.lists.proofs.Tests.{by-cases, by-test, by-either, no-clash, true-and, not-true, not-false, in-filter, of-filter, length-filter, in-map, of-map, all-each, any-some, some-any, none-each, each-nothing, each-head, each-rest, each-map, each-both, each-one, in-one, member-some}
 use Rattle.lists.proofs.Sorting.{in-sort, of-sort, length-sort}
 use Rattle.lists.proofs.Apart.{apart-filter, apart-sort}
 use Rattle.rules.specs.declared.Enlistment.{Enlistment}
@@ -46,7 +46,7 @@ use Rattle.safety.proofs.Story.{next, story, onForget, mine, Tells}
 use Rattle.safety.proofs.View.{viewOf, look, view-stands, view-goes, goes-other, view-ends, ends-other, view-more, stands-held}
 use Rattle.safety.proofs.Open.{FitCommit, fits-commit}
 use Rattle.safety.proofs.Fitting.{Ready, Judged, judged-nothing, mine-none, told-open, open-shown, shown-open, open-count, commit-fit, live-nonzero, forget-fit, one-forgotten}
-use Rattle.safety.proofs.Messages.{notCommitted, notAborted, Only, only-nothing, only-one, only-each, only-both, Addressed, Owned, owned-about, addressed-nothing, addressed-one, addressed-each, addressed-both, none-committed, none-aborted, quiet}
+use Rattle.safety.proofs.Messages.{notCommitted, notAborted, Only, only-nothing, only-one, only-each, Addressed, Owned, owned-about, addressed-nothing, addressed-one, addressed-each, none-committed, none-aborted, quiet}
 
 -- ── what is shown of an outcome ─────────────────────────────────────────────────────────────────────────────────
 
@@ -155,13 +155,13 @@ module _ (tb : Table) (e : Event) (log : List ℕ) (t : Id) (p : ℕ) (tb₁ : T
       ss = toEach name.Abort hs ++ toApp name.AppAborted
 
       addressed : Addressed tb e ss
-      addressed = addressed-both tb e (toEach name.Abort hs) (toApp name.AppAborted) (addressed-each tb e name.Abort hs (λ x m. home x (of-filter hearsAbort hs₁ m .0))) (addressed-one tb e name.AppAborted 0 (inl refl))
+      addressed = each-both (toEach name.Abort hs) (toApp name.AppAborted) (addressed-each tb e name.Abort hs (λ x m. home x (of-filter hearsAbort hs₁ m .0))) (addressed-one tb e name.AppAborted 0 (inl refl))
 
       others : (u : Id) → (u ≡ t → ⊥) → viewOf u tb₂ ≡ viewOf u tb₁
       others u n = goes-other t p tb₁ (z .stands) transaction.aborting abortedOf u keeps-aborted n
 
       silent : New t Committed (map (messageOf tb e) ss) → ⊥
-      silent = none-committed t tb e ss (only-both notCommitted (toEach name.Abort hs) (toApp name.AppAborted) (only-each notCommitted name.Abort hs refl) (only-one notCommitted name.AppAborted 0 refl))
+      silent = none-committed t tb e ss (each-both (toEach name.Abort hs) (toApp name.AppAborted) (only-each notCommitted name.Abort hs refl) (only-one notCommitted name.AppAborted 0 refl))
 
   -- ── decide ────────────────────────────────────────────────────────────────────────────────────────────────────
 
@@ -197,12 +197,12 @@ module _ (tb : Table) (e : Event) (log : List ℕ) (t : Id) (p : ℕ) (tb₁ : T
 
   commit-not-aborted : Only notAborted (commitSignals hs₁)
   unfolding commitSignals
-  commit-not-aborted = only-both notAborted (toEach name.Commit (filter (isIn enlistment.prepared) hs₁)) (toApp name.AppCommitted)
+  commit-not-aborted = each-both (toEach name.Commit (filter (isIn enlistment.prepared) hs₁)) (toApp name.AppCommitted)
       (only-each notAborted name.Commit (filter (isIn enlistment.prepared) hs₁) refl) (only-one notAborted name.AppCommitted 0 refl)
 
   commit-home : Addressed tb e (commitSignals hs₁)
   unfolding commitSignals
-  commit-home = addressed-both tb e (toEach name.Commit (filter (isIn enlistment.prepared) hs₁)) (toApp name.AppCommitted)
+  commit-home = each-both (toEach name.Commit (filter (isIn enlistment.prepared) hs₁)) (toApp name.AppCommitted)
       (addressed-each tb e name.Commit (filter (isIn enlistment.prepared) hs₁) (λ x m. home x (of-filter (isIn enlistment.prepared) hs₁ m .0))) (addressed-one tb e name.AppCommitted 0 (inl refl))
 
   entries-valid : (es : List Enlistment) → Each (λ x. (length (x .rm .0) ≡ identifierSize) × (x .number ≤ largestNumber)) es → Each ValidEntry (map entryOf es)
@@ -255,10 +255,6 @@ module _ (tb : Table) (e : Event) (log : List ℕ) (t : Id) (p : ℕ) (tb₁ : T
       durables : Some Durable hs₁
       durables = some-durable-of hs₁ d
 
-      positive : {x : Enlistment} (l : List Enlistment) → x ∈ l → 0 < length l
-      positive [] m = absurd (List·Memᴰ·not-nil m)
-      positive (y ∷ l) m = omega arith
-
       as-many : length entries ≡ length (filter isDurable hs₁)
       unfolding entries ds
       as-many = length-map ds entryOf ∙ length-sort byNumber (filter isDurable hs₁)
@@ -268,7 +264,7 @@ module _ (tb : Table) (e : Event) (log : List ℕ) (t : Id) (p : ℕ) (tb₁ : T
       entries-ok = entries-valid ds (λ x m. z .sized x (of-filter isDurable hs₁ (of-sort byNumber (filter isDurable hs₁) m) .0))
 
       ok : Valid (Record.commit t entries)
-      ok = valid-commit {es = entries} id-size (rw as-many (positive (filter isDurable hs₁) (in-filter isDurable hs₁ (durables .there) (eq-eqb (durables .it .kind) kind.durable (durables .holds)))))
+      ok = valid-commit {es = entries} id-size (rw as-many (member-some (filter isDurable hs₁) (in-filter isDurable hs₁ (durables .there) (eq-eqb (durables .it .kind) kind.durable (durables .holds)))))
           (rw as-many (omega (arith, length-filter isDurable hs₁, z .few))) entries-ok
 
       listed : (q : Id) → Some (Hopes q) hs₁ → q ∈ managersOf entries
@@ -319,7 +315,7 @@ module _ (tb : Table) (e : Event) (log : List ℕ) (t : Id) (p : ℕ) (tb₁ : T
       unfolding append commitRecord useMore story next allBytes entries ds
       decide-durable = rw own-id (record {
         records = Record.commit t entries ∷ [];
-        valid = each-more ok (each-nothing Valid);
+        valid = each-one Valid ok;
         bytes = ap (λ n. take (n + length bs) (written n bs log)) (used-goes p transaction.committing committedOf tb₁) ∙ written-used (tb₁ .used) bs log (omega (arith, size, fits)) ∙ ap₂ (λ n l. take n log ++ l) (z .used) (sym (append-nil bs));
         other-story = λ u n s. rw (not-same u n) refl;
         other-view = λ u n. view-more u (length bs) (committing p tb₁) ∙ goes-other t p tb₁ (z .stands) transaction.committing committedOf u keeps-committed n ∙ z .other-view u n;
@@ -386,7 +382,7 @@ module _ (tb : Table) (e : Event) (log : List ℕ) (t : Id) (p : ℕ) (tb₁ : T
     unfolding append useMore story next allBytes recordBytes
     end-durable d all-done fits = rw own-id (record {
       records = Record.forget t ∷ [];
-      valid = each-more (valid-forget id-size) (each-nothing Valid);
+      valid = each-one Valid (valid-forget id-size);
       bytes = ap (λ n. take (n + length bs) (written n bs log)) (used-emptied p tb₁) ∙ written-used (tb₁ .used) bs log (omega (arith, fits, size)) ∙ ap₂ (λ n l. take n log ++ l) (z .used) (sym (append-nil bs));
       other-story = λ u n s. rw (not-same u n) refl;
       other-view = λ u n. view-more u (length bs) (emptied p tb₁) ∙ ends-for t p tb₁ (z .stands) u n ∙ z .other-view u n;
@@ -442,7 +438,7 @@ module _ (tb : Table) (e : Event) (log : List ℕ) (t : Id) (p : ℕ) (tb₁ : T
         (there q)))
       where
         only : (y : Enlistment) → y ∈ hs₁ → y ≡ x
-        only y m = by-either (λ r. r) (λ r. absurd (List·Memᴰ·not-nil r)) (List·Memᴰ·cases-cons (rw q at m))
+        only y m = in-one (rw q at m)
 
         same : (n : ℕ) (r : Id) (k : ℕ) → Some (Unasked n r k) hs₁ → (n ≡ x .number) × (r ≡ x .rm .0) × (k ≡ x .kind)
         same n r k y = let i : Is n r k x = rw (only (y .it) (y .there)) at (y .holds .0) in (sym (i .0), sym (i .1), sym (i .2))

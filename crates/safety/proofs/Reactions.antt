@@ -6,13 +6,13 @@ use native.Mathlib.Decide.{ℕ-discrete}
 use mathlib.Core.Path.{_≡_, refl, sym, _∙_, ap, subst}
 use mathlib.Core.Logic.{_⊎_, inl, inr}
 use mathlib.Core.Bool.{true, false, _||_, true≢false, _&&_}
-use mathlib.Core.List.{List, [], _∷_, map, List·Memᴰ·not-nil}
+use mathlib.Core.List.{List, [], map}
 use lib.ListN.{length}
 use lib.Dec.{eqb}
 use borrow.Author.Tests.{eqb-true, eqb-false, eq-eqb, ne-eqb}
 use Rattle.lists.specs.Members.{_∈_, Some, Apart}
 use Rattle.lists.specs.Lists.{any, filter}
-use Rattle.lists.proofs.Tests.{by-cases, by-test, by-either, no-clash, and-true, true-and, true-or, not-true, false-not, any-some, some-any, none-each, filter-filter}
+use Rattle.lists.proofs.Tests.{by-cases, by-test, by-either, no-clash, and-true, true-and, true-or, not-true, false-not, any-some, some-any, none-each, filter-filter, member-some}
 use Rattle.lists.proofs.Places.{in-places}
 use Rattle.lists.proofs.Apart.{apart-narrower, apart-changed}
 use Rattle.rules.specs.declared.Enlistment.{Enlistment}
@@ -167,12 +167,8 @@ module _ (tb : Table) (s : Sound tb) (t : Id) (p : ℕ) (at : Stands t p tb) whe
   -- where it is open, there is room for its forget record
   pub room-open : (log : List ℕ) → length log ≡ tb .capacity → stateAt p tb ≡ transaction.committing → Some Durable (held p tb) → tb .used + forgetSize ≤ length log
   unfolding openPlaces
-  room-open log full state d = rw full (omega (arith, s .room, positive (openPlaces tb) (in-places (λ q x. isOpen (x .state) (held q tb)) noTransaction (tb .transactions) (named-place t p tb (at .here)) is-open)))
+  room-open log full state d = rw full (omega (arith, s .room, member-some (openPlaces tb) (in-places (λ q x. isOpen (x .state) (held q tb)) noTransaction (tb .transactions) (named-place t p tb (at .here)) is-open)))
     where
-      positive : (l : List ℕ) → p ∈ l → 1 ≤ length l
-      positive [] m = absurd (List·Memᴰ·not-nil m)
-      positive (y ∷ l) m = omega arith
-
       is-open : isOpen (stateAt p tb) (held p tb) ≡ true
       is-open = rw (state, some-any isDurable (held p tb) (record { it = d .it; there = d .there; holds = eq-eqb (d .it .kind) kind.durable (d .holds) })) refl
 

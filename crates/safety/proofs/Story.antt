@@ -5,12 +5,12 @@ use native.Mathlib.Omega.{arith}
 use native.Mathlib.Decide.{decLe}
 use mathlib.Core.Path.{_≡_, refl, sym, _∙_, ap}
 use mathlib.Core.Bool.{true, false, cond, not, _&&_}
-use mathlib.Core.List.{List, [], _∷_, _++_, append-assoc, append-nil, List·Memᴰ·append-cases, Memᴰ·append-left}
+use mathlib.Core.List.{List, [], _∷_, _++_, append-assoc, append-nil}
 use lib.ListN.{length, drop, drop-of-length-le}
 use lib.Seq.{drop-append-le}
 use Rattle.lists.specs.Lists.{filter}
 use Rattle.lists.specs.Members.{Each}
-use Rattle.lists.proofs.Tests.{by-test, by-either, no-clash, each-nothing, each-head, each-rest, filter-append, filter-filter, filter-same, filter-none}
+use Rattle.lists.proofs.Tests.{by-test, no-clash, each-nothing, each-head, each-rest, filter-append, filter-filter, filter-same, filter-none, each-both}
 use Rattle.rules.specs.Identifiers.{Id, sameBytes}
 use Rattle.rules.specs.Sizes.{headerSize}
 use Rattle.rules.specs.Log.{Entry, Record, header, allBytes, scan}
@@ -97,16 +97,10 @@ pub story-formed : (t : Id) (bs : List ℕ) (f : Formed bs) → storyOf t bs ≡
 unfolding storyOf
 story-formed t bs f = ap (λ l. story t none (scan 0 (drop headerSize l))) (f .bytes) ∙ ap (λ l. story t none (scan 0 l)) (sym (append-nil (allBytes (f .records)))) ∙ ap (story t none) (scan-all (f .records) (f .valid) torn-nothing)
 
-pub valid-both : (a b : List Record) → Each Valid a → Each Valid b → Each Valid (a ++ b)
-valid-both a b v w r m = by-either (v r) (w r) (List·Memᴰ·append-cases a m)
-
-pub valid-front : (a b : List Record) → Each Valid (a ++ b) → Each Valid a
-valid-front a b v r m = v r (Memᴰ·append-left b m)
-
 pub formed-append : (bs : List ℕ) (f : Formed bs) (rs : List Record) → Each Valid rs → Formed (bs ++ allBytes rs)
 formed-append bs f rs v = record {
   records = f .records ++ rs;
-  valid = valid-both (f .records) rs (f .valid) v;
+  valid = each-both (f .records) rs (f .valid) v;
   bytes = ap (λ l. l ++ allBytes rs) (f .bytes) ∙ append-assoc header (allBytes (f .records)) (allBytes rs) ∙ ap (λ l. header ++ l) (sym (all-append (f .records) rs));
 }
 
