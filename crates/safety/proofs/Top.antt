@@ -9,11 +9,10 @@ use mathlib.Core.List.{List, [], _∷_, _++_, map, List·Memᴰ·not-nil, append
 use lib.Dec.{eqb}
 use borrow.Author.Tests.{eqb-true}
 use lib.ListN.{length, take}
-use Rattle.lists.specs.Members.{_∈_, Some}
+use Rattle.lists.specs.Members.{_∈_}
 use Rattle.rules.specs.declared.Table.{Table}
 use Rattle.rules.specs.declared.Event.{Event}
 use Rattle.rules.specs.declared.Name.{Name}
-use Rattle.rules.specs.Sound.{Durable}
 use Rattle.rules.specs.Identifiers.{Id}
 use Rattle.rules.specs.Log.{Entry}
 use Rattle.rules.specs.Step.{Step, stepOf}
@@ -23,7 +22,7 @@ use Rattle.safety.specs.Host.{MayAsk, careful, Makes, MoreStored, Trimme
 use Rattle.safety.specs.Run.{Run, start, step, store, trim, leave, restart}
 use Rattle.rules.specs.Signals.{Committed, Aborted}
 use Rattle.safety.specs.Demand3.{Safe, Demand3}
-use Rattle.safety.proofs.Alone.{Story, none, open-with, bad, Below, below-trans, below-both, View, out, early, voting, single, committing, aborting, NoDurable, Entered, Any, Base, Shape}
+use Rattle.safety.proofs.Alone.{Story, none, open-with, bad, Below, below-trans, below-both, View, out, early, voting, single, committing, aborting, RecordOrNone, Any, Base, Shape}
 use Rattle.safety.proofs.Move.{nothing-calm, quiet-nothing, Move, keep-base, keep-shape, make-stay, stay-shape}
 use Rattle.safety.proofs.Cut.{Restored, keep-store, keep-leave, shape-leave, keep-restart, shape-restart}
 
@@ -35,7 +34,7 @@ Agrees out l = (rs : List Entry) → l ≡ open-with rs → ⊥
 Agrees (early es) l = l ≡ none
 Agrees (voting es) l = l ≡ none
 Agrees (single es) l = l ≡ none
-Agrees (committing es) l = ((rs : List Entry) × (l ≡ open-with rs) × Some Durable es × Entered rs es) ⊎ ((l ≡ none) × NoDurable es)
+Agrees (committing es) l = RecordOrNone l es
 Agrees aborting l = l ≡ none
 
 pub record Refused (tb : Table) (log : List ℕ) (s : Step) : Type 0 where
