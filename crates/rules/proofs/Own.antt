@@ -119,7 +119,7 @@ in-active (HoldsWell.single-phase q n h) z = absurd (omega arith)
 in-active (HoldsWell.committing q n h x) z = absurd (omega arith)
 in-active (HoldsWell.aborting q h x) z = absurd (omega arith)
 
-active-or-zero : (s : ℕ) → not (eqb s transaction.active || eqb s transaction.phaseZero) ≡ false → (s ≡ transaction.active) ⊎ (s ≡ transaction.phaseZero)
+pub active-or-zero : (s : ℕ) → not (eqb s transaction.active || eqb s transaction.phaseZero) ≡ false → (s ≡ transaction.active) ⊎ (s ≡ transaction.phaseZero)
 active-or-zero s t = by-either (λ c. inl (eqb-true s transaction.active c)) (λ c. inr (eqb-true s transaction.phaseZero c)) (true-or (eqb s transaction.active) (eqb s transaction.phaseZero) (not-false _ t))
 
 module _ (tb : Table) (e : Event) (log : List ℕ) (fine : refusalOf tb e (length log) ≡ refusal.accepted) where

@@ -38,6 +38,10 @@ pub record Part (p : ℕ) (tb tb′ : Table) : Type 0 where
 pub part-same : (p : ℕ) {tb : Table} → Sound tb → Part p tb tb
 part-same p {tb} s = record { only = only-same p tb; kept = sound-kept s; well = s .states p; room = λ r. r }
 
+-- places stay places
+pub places-kept : {p : ℕ} {tb tb′ : Table} {qs : List ℕ} → Only p tb tb′ → Each (λ q. IsPlace (tb .transactions) q) qs → Each (λ q. IsPlace (tb′ .transactions) q) qs
+places-kept o h q m = record { low = h q m .low; high = omega (arith, o .as-many, h q m .high) }
+
 pub part-then : {p : ℕ} {a b c : Table} → Only p a b → (Room a → Room b) → Part p b c → Part p a c
 part-then o r h = record { only = only-then o (h .only); kept = h .kept; well = h .well; room = λ q. h .room (r q) }
 

@@ -24,7 +24,7 @@ use Rattle.rules.proofs.Frames.{of-held}
 use Rattle.rules.proofs.Along.{as-many}
 use Rattle.rules.proofs.Kept.{Kept, sound-kept, Keeping, stays, moves, kept-map, live-place, live-some, SameKey, key-same, key-either}
 use Rattle.rules.proofs.Only.{Keeps, only-held, kept-held, at-changed, each-changed, some-changed, room-held, Room}
-use Rattle.rules.proofs.Parts.{Part, end-at, end-over, some-undone, part-same}
+use Rattle.rules.proofs.Parts.{Part, end-at, end-over, some-undone, part-same, places-kept}
 use Rattle.rules.proofs.Phases.{Committed}
 use Rattle.rules.proofs.Reacting.{zeroing-range, voting-range, aborted-range}
 
@@ -90,8 +90,7 @@ unfolding endEach
 end-each [] tb log k r h = record { kept = k; room = r; same-capacity = refl; transactions = λ q n. refl; enlistments = λ q n z. refl; over = λ q l m. List·Memᴰ·not-nil m }
 end-each (p ∷ ps) tb log k r h =
     let one : Part p tb (endOf p tb log .table) = end-at p tb log k (each-head h) in
-    let rest = end-each ps (endOf p tb log .table) (endOf p tb log .log) (one .kept) (one .room r)
-    (λ q m. record { low = each-rest h q m .low; high = omega (arith, one .only .as-many, each-rest h q m .high) }) in
+    let rest = end-each ps (endOf p tb log .table) (endOf p tb log .log) (one .kept) (one .room r) (places-kept (one .only) (each-rest h)) in
     record {
       kept = rest .kept;
       room = rest .room;

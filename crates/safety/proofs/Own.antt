@@ -39,10 +39,10 @@ use Rattle.rules.proofs.Ordered.{by-number-ascends}
 use Rattle.safety.specs.World.{Note, noteOf, messageOf, subjectOf}
 use Rattle.safety.specs.Host.{Prepares, Closes, careful, Makes}
 use Rattle.safety.proofs.Alone as alone
-use Rattle.safety.proofs.Alone.{Story, closed, early, voting, aborting, Hopes, Waits, Is, Unasked, Preparing, NoDurable, managersOf, Entered, New, out, none-durable, any-durable, waits-undone}
+use Rattle.safety.proofs.Alone.{Story, early, voting, aborting, Hopes, Waits, Is, Unasked, Preparing, NoDurable, managersOf, Entered, New, out, none-durable, any-durable, waits-undone}
 use Rattle.safety.proofs.Move.{Calm, NotEnlisted, VoteOf, Doomed, from-voting, from-aborting, to-out, to-aborting, Move, prepare, ask-one, commit-empty, decide-logged, decide-unlogged, decide-empty, abort, told-on, end-logged, end-unlogged}
 use Rattle.safety.proofs.Top.{Agrees}
-use Rattle.safety.proofs.Story.{next, story, onForget, mine, Tells}
+use Rattle.safety.proofs.Story.{next, story, mine, Tells, forgotten}
 use Rattle.safety.proofs.View.{viewOf, look, view-stands, view-goes, goes-other, view-ends, ends-other, view-more, stands-held}
 use Rattle.safety.proofs.Open.{FitCommit, fits-commit}
 use Rattle.safety.proofs.Fitting.{Ready, Judged, judged-nothing, mine-none, told-open, open-shown, shown-open, open-count, commit-fit, live-nonzero, forget-fit, one-forgotten}
@@ -350,16 +350,15 @@ module _ (tb : Table) (e : Event) (log : List ℕ) (t : Id) (p : ℕ) (tb₁ : T
     closing all-done r (inl y) = absurd (waits-undone (y .it) (y .holds) (eqb-true (y .it .state) enlistment.done (all-each isDone hs₁ all-done (y .it) (y .there))))
     closing all-done r (inr c) = c
 
-    closes : (l : Story) → Agrees (alone.committing hs) l → Some Durable hs₁ → onForget l ≡ closed
-    closes l (inl (rs, q, y, n)) d = rw q refl
-    closes l (inr (q, y)) d = absurd (w .no-durable y (d .it) (d .there) (d .holds))
+    some-left : any isDurable hs₁ ≡ true → NoDurable hs → ⊥
+    some-left d y = let s : Some Durable hs₁ = any-durable hs₁ d in w .no-durable y (s .it) (s .there) (s .holds)
 
     forget-judged : {used : ℕ} → any isDurable hs₁ ≡ true → used ≡ tb .used + forgetSize → Judged tb log used (Record.forget t ∷ [])
     unfolding allFitting openAfter afterRecord
     forget-judged {used} d e = record { judged = λ os r. (rw (forget-fit t os (live-nonzero tb (r .sound) t p (z .before)) (opened os r)) refl, omega (arith, e, r .room, one-forgotten t os (opened os r))) }
       where
         opened : (os : List Open) → Ready tb log os → any (isOpenAs t) os ≡ true
-        opened os r = told-open tb log os r t hs shown (λ y. w .no-durable y (any-durable hs₁ d .it) (any-durable hs₁ d .there) (any-durable hs₁ d .holds))
+        opened os r = told-open tb log os r t hs shown (some-left d)
 
     end-durable : any isDurable hs₁ ≡ true → all isDone hs₁ ≡ true → tb₁ .used + forgetSize ≤ length log → Here (append (Record.forget (idAt p tb₁)) (emptied p tb₁) log)
     unfolding append useMore story next allBytes recordBytes
@@ -372,7 +371,7 @@ module _ (tb : Table) (e : Event) (log : List ℕ) (t : Id) (p : ℕ) (tb₁ : T
       judged = forget-judged d (ap (λ n. n + length bs) (used-emptied p tb₁ ∙ z .used) ∙ ap (λ n. tb .used + n) size);
       addressed = addressed-nothing tb e;
       move = λ h f l a. rw (same-refl t, shown, view-more t (length bs) (emptied p tb₁) ∙ view-ends t p tb₁ (z .stands))
-          (end-logged (closes l (rw shown at a) (any-durable hs₁ d)) (w .calm) (quiet t tb e [] (only-nothing notCommitted) (only-nothing notAborted)) (λ r y. closing all-done r (w .waits r y)));
+          (end-logged (forgotten hs l (rw shown at a) (some-left d)) (w .calm) (quiet t tb e [] (only-nothing notCommitted) (only-nothing notAborted)) (λ r y. closing all-done r (w .waits r y)));
     })
       where
         bs : List ℕ

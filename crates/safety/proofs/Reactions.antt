@@ -50,12 +50,13 @@ use Rattle.safety.proofs.Alone as alone
 use Rattle.safety.proofs.Alone.{Story, Hopes, Waits, Is, Unasked, Preparing, NoDurable, durable-any, any-durable}
 use Rattle.safety.proofs.Move.{Calm, calm-note, nothing-calm, NotEnlisted, VoteOf, Doomed, from-early, from-voting, from-single, to-out, Move, gather, vote-on, abort, replied, told-on}
 use Rattle.safety.proofs.View.{viewOf, look, view-in, view-changes, view-held-other, state-held, stands-held}
-use Rattle.safety.proofs.Given.{id-size, owner-held, Row, in-active, in-zero, in-voting, in-single, in-commit, in-abort, Named}
+use Rattle.safety.proofs.Given.{owner-held, Row, in-active, in-zero, in-voting, in-single, in-commit, in-abort, Named}
 use Rattle.safety.proofs.Messages.{notCommitted, notAborted, only-nothing, only-one, Owned, addressed-nothing, none-committed, none-aborted, quiet}
 use Rattle.safety.proofs.Own.{Own, Touched, unlogged, own-abort, Voted, own-decide, own-end-aborting, own-end-committing, own-start, own-end-saying}
-use Rattle.rules.proofs.Kept.{SameKey, key-same, key-either, true-live, by-held}
+use Rattle.rules.proofs.Kept.{SameKey, key-same, key-either, true-live, by-held, sound-kept}
 use Rattle.rules.proofs.Put.{member-held}
 use Rattle.rules.proofs.Preserved.{used-fits}
+use Rattle.rules.proofs.Parts.{id-length}
 
 -- ── the state of the transaction, by that of its enlistment ─────────────────────────────────────────────────────
 
@@ -131,7 +132,7 @@ module _ (tb : Table) (s : Sound tb) (t : Id) (p : ℕ) (at : Stands t p tb) whe
   held-votes {x} m n = by-either (λ q. absurd (eqb-false (x .kind) kind.phaseZero n q)) (λ q. q) (s .kinds x (of-held p tb m .0) (member-held p tb some-place m) .0)
 
   pub own-id-size : length t ≡ identifierSize
-  own-id-size = ap length (sym (named-is t (transactionAt p tb) (at .here) .1)) ∙ id-size tb s p (named-is t (transactionAt p tb) (at .here) .0)
+  own-id-size = ap length (sym (named-is t (transactionAt p tb) (at .here) .1)) ∙ id-length p tb (sound-kept s) live
 
   numbers-apart : Apart (λ x y. x .number ≡ y .number) (held p tb)
   unfolding held

@@ -17,7 +17,9 @@ use Rattle.rules.specs.Log.{Entry, Record, header, allBytes, scan}
 use Rattle.rules.specs.Restart.{Open, isOpenAs, afterRecord, openAfter}
 use Rattle.rules.proofs.Identifiers.{same-refl, same-equal}
 use Rattle.rules.proofs.Records.{Valid, valid-commit, torn-nothing, scan-all, Begins, scan-longer, all-append}
-use Rattle.safety.proofs.Alone.{Story, none, open-with, closed, bad, Below, below-refl, below-trans}
+use Rattle.safety.proofs.Alone.{Story, none, open-with, closed, bad, Below, below-refl, below-trans, RecordOrNone, NoDurable}
+use Rattle.rules.specs.declared.Enlistment.{Enlistment}
+use mathlib.Core.Logic.{inl, inr}
 
 -- ── stories ─────────────────────────────────────────────────────────────────────────────────────────────────────
 
@@ -32,6 +34,11 @@ onForget none = bad
 onForget (open-with qs) = closed
 onForget closed = bad
 onForget bad = bad
+
+-- a forget record closes the story of a transaction in Committing that has its record
+pub forgotten : (es : List Enlistment) (l : Story) → RecordOrNone l es → (NoDurable es → ⊥) → onForget l ≡ closed
+forgotten es l (inl (rs, q, d, n)) f = rw q refl
+forgotten es l (inr (q, n)) f = absurd (f n)
 
 unfoldable pub next : Id → Story → Record → Story
 next t s (Record.commit u es) = cond (sameBytes u t) (onCommit s es) s
