@@ -5,49 +5,41 @@ use lib.ListN.{length, replicate}
 use Rattle.rules.specs.declared.Transaction.{Transaction}
 use Rattle.rules.specs.declared.Enlistment.{Enlistment}
 use Rattle.rules.specs.declared.Table.{Table}
-use Rattle.rules.specs.declared.Event.{Event}
-use Rattle.rules.specs.declared.Act.{Act}
-use Rattle.rules.specs.declared.Act.the-variants as act
 use Rattle.rules.specs.declared.Kind.{Kind}
 use Rattle.rules.specs.declared.Mark.{Mark}
 use Rattle.rules.specs.declared.Vote.{Vote}
 use Rattle.rules.specs.declared.Name.{Name}
 use Rattle.rules.specs.declared.Signal.{Signal}
+use Rattle.rules.specs.Words as event
+use Rattle.rules.specs.Words.{id}
 use Rattle.cases.specs.Case.{Call, step, Line, Case}
 
--- "T and R are 0 to 255, the last of 16 bytes, others zero"
-abbrev pub id : ℕ → List ℕ
-id n = 0 ∷ 0 ∷ 0 ∷ 0 ∷ 0 ∷ 0 ∷ 0 ∷ 0 ∷ 0 ∷ 0 ∷ 0 ∷ 0 ∷ 0 ∷ 0 ∷ 0 ∷ n ∷ []
-
-abbrev pub event : Act → ℕ → ℕ → Event
-event a t r = record { tx = record { 0 = id t }; rm = record { 0 = id r }; act = a }
-
 abbrev pub begin : ℕ → Call
-begin t = step (event act.Begin t 0)
+begin t = step (event.begin t)
 
 abbrev pub enlist : ℕ → ℕ → ℕ → Kind → Mark → Call
-enlist t n r k m = step (event (act.Enlist n k m) t r)
+enlist t n r k m = step (event.enlist t n r k m)
 
 abbrev pub commit : ℕ → Call
-commit t = step (event act.Commit t 0)
+commit t = step (event.commit t)
 
 abbrev pub rollback : ℕ → Call
-rollback t = step (event act.Rollback t 0)
+rollback t = step (event.rollback t)
 
 abbrev pub vote : ℕ → Vote → Call
-vote n v = step (event (act.Vote n v) 0 0)
+vote n v = step (event.vote n v)
 
 abbrev pub ack : ℕ → Call
-ack n = step (event (act.Ack n) 0 0)
+ack n = step (event.ack n)
 
 abbrev pub lost : ℕ → Call
-lost n = step (event (act.Lost n) 0 0)
+lost n = step (event.lost n)
 
 abbrev pub ask : ℕ → ℕ → Call
-ask t r = step (event act.Ask t r)
+ask t r = step (event.ask t r)
 
 abbrev pub reenlisted : ℕ → Call
-reenlisted r = step (event act.Reenlisted 0 r)
+reenlisted r = step (event.reenlisted r)
 
 abbrev pub line : ℕ → ℕ → List Signal → Line
 line why used ss = record { refusal = why; used = used; signals = ss }

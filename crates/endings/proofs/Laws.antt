@@ -7,9 +7,8 @@ use lib.ListN.{length}
 use Rattle.rules.specs.declared.Enlistment.{Enlistment}
 use Rattle.rules.specs.declared.Signal.{Signal}
 use Rattle.rules.specs.declared.Signals.{Signals}
-use Rattle.rules.specs.declared.Table.{Table}
 use Rattle.rules.specs.declared.Transaction.{Transaction}
-use Rattle.rules.specs.Table.{transactionAt, stateAt, held, freed, ended, emptied, changeHeld, goTo}
+use Rattle.rules.specs.Table.{stateAt, held, freed, ended, emptied, changeHeld, goTo}
 use Rattle.rules.specs.Sound.{isOpen}
 use Rattle.rules.specs.Signals.{rowOf}
 use Rattle.rules.specs.Log.{Record, recordBytes, written}
@@ -19,18 +18,12 @@ use Rattle.holdings.specs.Holdings.{alone, Placed, withHeld, withTransaction, w
 use Rattle.holdings.proofs.Laws.{alone-at, alone-used}
 use Rattle.holdings.proofs.Alone.{alone-emptied, alone-going}
 use Rattle.endings.specs.Gives.{Gives, Leaves, Ready}
-
--- the two ways in which a transaction ends
-module _ (p : ℕ) (tb : Table) (log : List ℕ) {x : Transaction} (at : x ≡ transactionAt p tb) where
-  is-open : isOpen (x .state) (held p tb) ≡ true → endOf p tb log ≡ append (Record.forget (x .id .0)) (emptied p tb) log
-  unfolding endOf
-  is-open t = let o : isOpen (stateAt p tb) (held p tb) ≡ true = rw at at t in rw (o, at)
-
-  is-shut : isOpen (x .state) (held p tb) ≡ false → endOf p tb log ≡ quietly (emptied p tb) log
-  unfolding endOf
-  is-shut t = let o : isOpen (stateAt p tb) (held p tb) ≡ false = rw at at t in rw o
+use Rattle.rules.proofs.Parts.{open-end, closed-end}
 
 module _ (h : Holding) (i : Placed (h .place)) (log : List ℕ) {after : Holding} {b : Bool} (test : b ≡ isOpen (h .transaction .state) (held (h .place) (alone h))) (so : after ≡ withTransaction (ended (h .transaction)) (withHeld freed h)) where
+  opens : isOpen (stateAt (h .place) (alone h)) (held (h .place) (alone h)) ≡ b
+  opens = ap (λ (x : Transaction). isOpen (x .state) (held (h .place) (alone h))) (alone-at h i) ∙ sym test
+
   empty : alone after ≡ emptied (h .place) (alone h)
   empty = ap alone so ∙ alone-emptied h
 
@@ -41,14 +34,14 @@ module _ (h : Holding) (i : Placed (h .place)) (log : List ℕ) {after : Holding
   pub end-open : {r : Holding} {out : List ℕ} (n : ℕ) → b ≡ true → out ≡ written (after .used) (recordBytes (Record.forget (h .transaction .id .0))) log
       → n ≡ length (recordBytes (Record.forget (h .transaction .id .0))) → r ≡ withUsed (after .used + n) after → Leaves (h .place) (endOf (h .place) (alone h) log) r out
   unfolding append
-  end-open n t o size u = rw (is-open (h .place) (alone h) log (sym (alone-at h i)) (sym test ∙ t)) (record {
+  end-open n t o size u = rw (open-end (h .place) (alone h) log (opens ∙ t) ∙ ap (λ (x : Transaction). append (Record.forget (x .id .0)) (emptied (h .place) (alone h)) log) (alone-at h i)) (record {
     table = ap alone u ∙ (alone-used n after ∙ rw (size, empty));
     place = ap (λ g. g .place) u ∙ ap (λ g. g .place) so;
     log = o ∙ rw used;
   })
 
   pub end-quiet : b ≡ false → Leaves (h .place) (endOf (h .place) (alone h) log) after log
-  end-quiet t = rw (is-shut (h .place) (alone h) log (sym (alone-at h i)) (sym test ∙ t)) (record { table = empty; place = ap (λ g. g .place) so; log = refl })
+  end-quiet t = rw (closed-end (h .place) (alone h) log (opens ∙ t)) (record { table = empty; place = ap (λ g. g .place) so; log = refl })
 
 -- going on keeps the place and the used length
 module _ (s : ℕ) (f : Enlistment → Enlistment) (h : Holding) {g : Holding} (e : g ≡ going s f h) where

@@ -1,10 +1,10 @@
 -- What a test that is computed says of the elements, and back. Each law goes along the list, and splits on the test of its head.
-use Prim.Native.Nat.{ℕ, zero, suc, _≤_}
+use Prim.Native.Nat.{ℕ, zero, suc, _≤_, _<_}
 use native.Mathlib.Omega.{arith}
 use mathlib.Core.Path.{_≡_, refl, sym, _∙_, ap, subst}
 use mathlib.Core.Logic.{_⊎_, inl, inr}
 use mathlib.Core.Bool.{Bool, true, false, cond, not, _&&_, _||_, true≢false, false≢true}
-use mathlib.Core.List.{List, [], _∷_, _++_, map, List·Memᴰ·head, List·Memᴰ·tail, List·Memᴰ·cases-cons, List·Memᴰ·not-nil, Memᴰ·map, Memᴰ·of-map, Memᴰ·append-left, Memᴰ·append-right}
+use mathlib.Core.List.{List, [], _∷_, _++_, map, List·Memᴰ·head, List·Memᴰ·tail, List·Memᴰ·cases-cons, List·Memᴰ·append-cases, List·Memᴰ·not-nil, Memᴰ·map, Memᴰ·of-map, Memᴰ·append-left, Memᴰ·append-right}
 use lib.ListN.{length, getD, take, drop, take-append-drop}
 use Rattle.lists.specs.Lists.{all, any, none, filter, count, firstOr, differ, every}
 use Rattle.lists.specs.Members.{_∈_, Each, Some, Apart, nothing, more}
@@ -16,10 +16,13 @@ pub by-test : {C : Type 0} (b : Bool) → (b ≡ true → C) → (b ≡ false �
 by-test true f g = f refl
 by-test false f g = g refl
 
--- what holds of both, holds of the one that is chosen
+-- what holds of each where it is chosen, holds of the one that is chosen
+pub by-cases : {A : Type 0} (P : A → Type 0) (b : Bool) (x y : A) → (b ≡ true → P x) → (b ≡ false → P y) → P (cond b x y)
+by-cases P true x y f g = f refl
+by-cases P false x y f g = g refl
+
 pub by-cond : {A : Type 0} (P : A → Type 0) (b : Bool) {x y : A} → P x → P y → P (cond b x y)
-by-cond P true p q = p
-by-cond P false p q = q
+by-cond P b {x} {y} p q = by-cases P b x y (λ _. p) (λ _. q)
 
 pub by-either : {A B C : Type 0} → (A → C) → (B → C) → A ⊎ B → C
 by-either f g (inl a) = f a
@@ -98,11 +101,30 @@ module _ {A : Type 0} where
   pub each-rest : {P : A → Type 0} {x : A} {xs : List A} → Each P (x ∷ xs) → Each P xs
   each-rest h y m = h y (List·Memᴰ·tail m)
 
+  pub each-one : (P : A → Type 0) {x : A} → P x → Each P (x ∷ [])
+  each-one P p = each-more p (each-nothing P)
+
+  pub each-both : {P : A → Type 0} (xs ys : List A) → Each P xs → Each P ys → Each P (xs ++ ys)
+  each-both xs ys a b x m = by-either (a x) (b x) (List·Memᴰ·append-cases xs m)
+
+  pub each-front : {P : A → Type 0} (xs ys : List A) → Each P (xs ++ ys) → Each P xs
+  each-front xs ys h x m = h x (Memᴰ·append-left ys m)
+
+  pub each-back : {P : A → Type 0} (xs ys : List A) → Each P (xs ++ ys) → Each P ys
+  each-back xs ys h x m = h x (Memᴰ·append-right xs m)
+
   pub each-take : {P : A → Type 0} (n : ℕ) {xs : List A} → Each P xs → Each P (take n xs)
-  each-take n {xs} h x m = h x (subst (λ l. x ∈ l) (take-append-drop n xs) (Memᴰ·append-left (drop n xs) m))
+  each-take {P} n {xs} h = each-front (take n xs) (drop n xs) (subst (Each P) (sym (take-append-drop n xs)) h)
 
   pub each-drop : {P : A → Type 0} (n : ℕ) {xs : List A} → Each P xs → Each P (drop n xs)
-  each-drop n {xs} h x m = h x (subst (λ l. x ∈ l) (take-append-drop n xs) (Memᴰ·append-right (take n xs) m))
+  each-drop {P} n {xs} h = each-back (take n xs) (drop n xs) (subst (Each P) (sym (take-append-drop n xs)) h)
+
+  pub in-one : {x y : A} → x ∈ y ∷ [] → x ≡ y
+  in-one m = by-either (λ e. e) (λ i. absurd (List·Memᴰ·not-nil i)) (List·Memᴰ·cases-cons m)
+
+  pub member-some : {x : A} (xs : List A) → x ∈ xs → 0 < length xs
+  member-some [] m = absurd (List·Memᴰ·not-nil m)
+  member-some (y ∷ xs) m = omega arith
 
   pub some-here : {P : A → Type 0} {x : A} {xs : List A} → P x → Some P (x ∷ xs)
   some-here {x = x} p = record { it = x; there = List·Memᴰ·head refl; holds = p }
@@ -280,3 +302,14 @@ module _ {A B : Type 0} (g : A → B) where
   unfolding any
   any-map f [] = refl
   any-map f (x ∷ xs) = rw (any-map f xs)
+
+module _ {A : Type 0} (g : A → A) where
+  pub map-same : (xs : List A) → Each (λ x. g x ≡ x) xs → map g xs ≡ xs
+  map-same [] h = refl
+  map-same (x ∷ xs) h = rw (each-head h, map-same xs (each-rest h))
+
+  -- a change that the test does not see
+  pub filter-map : (t : A → Bool) → ((x : A) → t (g x) ≡ t x) → (xs : List A) → filter t (map g xs) ≡ map g (filter t xs)
+  unfolding filter
+  filter-map t k [] = refl
+  filter-map t k (x ∷ xs) = by-test (t x) (λ e. rw (k x, e, filter-map t k xs)) (λ e. rw (k x, e) (filter-map t k xs))

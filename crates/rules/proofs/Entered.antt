@@ -11,7 +11,7 @@ use borrow.Author.Tests.{eqb-true, eqb-false, eq-eqb, ne-eqb}
 use Rattle.lists.specs.Lists.{any}
 use Rattle.lists.specs.Members.{_∈_, Each, Some}
 use Rattle.lists.specs.Places.{putLowest}
-use Rattle.lists.proofs.Tests.{by-test, by-either, no-clash, true-and, and-true, and-false, none-each, each-nothing}
+use Rattle.lists.proofs.Tests.{by-test, by-either, no-clash, and-true, and-false, none-each, each-nothing}
 use Rattle.lists.proofs.Places.{place-first, place-none, of-put, put-keeps}
 use Rattle.rules.specs.declared.Transaction.{Transaction}
 use Rattle.rules.specs.declared.Enlistment.{Enlistment}
@@ -27,14 +27,14 @@ use Rattle.rules.specs.TransactionState as transaction
 use Rattle.rules.specs.EnlistmentState as enlistment
 use Rattle.rules.specs.Identifiers.{Id}
 use Rattle.rules.specs.Table.{noTransaction, isFree, isVacant, isNamed, isNumbered, isDurableOf, durableKind, placeNamed, transactionAt, stateAt, held, withTransactions, withEnlistments}
-use Rattle.rules.specs.Sound.{isOpen, In, PhaseZero, Volatile, Durable, HoldsWell, Live, Held, Identifier, Number, Sound}
+use Rattle.rules.specs.Sound.{isOpen, In, PhaseZero, Volatile, Durable, HoldsWell, Live, Held, Identifier, Number, Sound, Known}
 use Rattle.rules.specs.Events.{beginOf, kindOf, newEnlistment, enlistOf}
 use Rattle.rules.proofs.Frames.{of-held, in-held, named-is, named-found}
 use Rattle.rules.proofs.Identifiers.{equal-same}
 use Rattle.rules.proofs.Kept.{sound-kept, live-true, true-live, live-place, live-some}
 use Rattle.rules.proofs.Put.{freePlace, at-new, new-holds-nothing, kept-begin, New, kept-enlist}
 use Rattle.rules.proofs.Only.{only-begin, only-enlist, openAt, room-kept}
-use Rattle.rules.proofs.Parts.{Part}
+use Rattle.rules.proofs.Parts.{Part, open-committing}
 use Rattle.rules.proofs.Phases.{Zeroing}
 
 -- a transaction that is named stands at its place
@@ -69,8 +69,7 @@ begin-part t tb log s i n some = record {
 -- ── Enlist ──────────────────────────────────────────────────────────────────────────────────────────────────────
 
 new-kind : (p s n : ℕ) (r : Id) (k : Kind) (m : Mark)
-    → ((PhaseZero (newEnlistment p s n r k m) ⊎ (Volatile (newEnlistment p s n r k m) ⊎ Durable (newEnlistment p s n r k m))) × (newEnlistment p s n r k m .mark ≤ mark.marked))
-    × (PhaseZero (newEnlistment p s n r k m) → newEnlistment p s n r k m .mark ≡ mark.unmarked)
+    → Known (newEnlistment p s n r k m) × (PhaseZero (newEnlistment p s n r k m) → newEnlistment p s n r k m .mark ≡ mark.unmarked)
 unfolding newEnlistment
 new-kind p s n r asked.PhaseZero m = ((inl refl, omega arith), λ z. refl)
 new-kind p s n r asked.Volatile marking.No = ((inr (inl refl), omega arith), λ z. refl)
@@ -158,4 +157,4 @@ module _ (p n : ℕ) (r : Id) (k : Kind) (m : Mark) (tb : Table) (log : List ℕ
   }
     where
       committing : openAt p (after entry tb) ≡ true → stateAt p tb ≡ transaction.committing
-      committing o = eqb-true _ _ (true-and _ _ o .0)
+      committing o = open-committing (stateAt p tb) (held p (after entry tb)) o

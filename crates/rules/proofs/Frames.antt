@@ -4,17 +4,17 @@ use Prim.Native.Nat.{ℕ, _+_, _-_, _≤_}
 use native.Mathlib.Omega.{arith}
 use mathlib.Core.Path.{_≡_, refl, sym, _∙_, ap}
 use mathlib.Core.Logic.{_⊎_, inl, inr}
-use mathlib.Core.Bool.{true, false, cond, _&&_, false≢true}
+use mathlib.Core.Bool.{true, false, cond, false≢true}
 use mathlib.Core.List.{List, [], _∷_, _++_, map, Memᴰ·cast}
-use lib.Dec.{eqb, leb}
-use lib.ListN.{length, take, drop, List·getD-eq-default, length-append}
+use lib.Dec.{eqb}
+use lib.ListN.{length, take, drop, length-append}
 use lib.Seq.{take-at, length-take-le, length-sets, sets-eq}
-use borrow.Author.Tests.{eqb-true, eqb-false, eq-eqb, ne-eqb, leb-true, le-leb}
+use borrow.Author.Tests.{eqb-true, eqb-false, eq-eqb, ne-eqb}
 use Rattle.lists.specs.Members.{_∈_, Some}
 use Rattle.lists.specs.Lists.{filter}
-use Rattle.lists.specs.Places.{at, changeAt}
-use Rattle.lists.proofs.Tests.{by-test, no-clash, is-false, true-and, in-filter, of-filter, in-map, of-map, none-each, some-any}
-use Rattle.lists.proofs.Places.{IsPlace, IsFirst, at-is, at-below, at-member, length-change, at-change-same, at-change-other, place-first, first-place, place-none, place-some}
+use Rattle.lists.specs.Places.{at}
+use Rattle.lists.proofs.Tests.{by-test, no-clash, is-false, true-and, in-filter, of-filter, in-map, of-map, none-each, some-any, by-either}
+use Rattle.lists.proofs.Places.{IsPlace, IsFirst, at-member, length-change, at-change-same, at-change-other, place-first, first-place, place-none, place-some, place-or-nothing}
 use Rattle.rules.specs.declared.Transaction.{Transaction}
 use Rattle.rules.specs.declared.Enlistment.{Enlistment}
 use Rattle.rules.specs.declared.Table.{Table}
@@ -99,20 +99,8 @@ held-transaction p q f tb = refl
 
 -- ── a name at a place ───────────────────────────────────────────────────────────────────────────────────────────
 
-at-outside : (p : ℕ) (xs : List Transaction) → (IsPlace xs p → ⊥) → at noTransaction p xs ≡ noTransaction
-at-outside p xs h = by-test (eqb p 0)
-    (λ e. at-below noTransaction 1 p xs (omega (arith, eqb-true p 0 e)))
-    (λ e. at-is noTransaction p xs ∙ rw e (List·getD-eq-default xs noTransaction {n = p - 1} (by-test (leb p (length xs))
-    (λ l. absurd (h (record { low = omega (arith, eqb-false p 0 e); high = leb-true p (length xs) l })))
-    (λ l. omega (arith, eqb-false p 0 e, above l)))))
-  where
-    above : leb p (length xs) ≡ false → p ≤ length xs → ⊥
-    above l q = no-clash (leb p (length xs)) (le-leb p (length xs) q) l
-
 pub by-place : {C : Type 0} (p : ℕ) (xs : List Transaction) → (IsPlace xs p → C) → (at noTransaction p xs ≡ noTransaction → C) → C
-by-place p xs f g = by-test (leb 1 p && leb p (length xs))
-    (λ e. f (record { low = leb-true 1 p (true-and (leb 1 p) (leb p (length xs)) e .0); high = leb-true p (length xs) (true-and (leb 1 p) (leb p (length xs)) e .1) }))
-    (λ e. g (at-outside p xs (λ h. no-clash (leb 1 p && leb p (length xs)) (rw (le-leb 1 p (h .low), le-leb p (length xs) (h .high)) refl) e)))
+by-place p xs f g = by-either f g (place-or-nothing noTransaction p xs)
 
 pub named-is : (t : Id) (x : Transaction) → isNamed t x ≡ true → (isLive x ≡ true) × (x .id .0 ≡ t)
 named-is t x e = (true-and (isLive x) (sameBytes (x .id .0) t) e .0, same-equal (x .id .0) t (true-and (isLive x) (sameBytes (x .id .0) t) e .1))
@@ -187,15 +175,9 @@ module _ (p : ℕ) (f : Transaction → Transaction) (tb : Table) where
   unfolding changeTransaction
   as-many = length-change f 1 p (tb .transactions)
 
-  at-none : (IsPlace (tb .transactions) p → ⊥) → transactionAt p (changeTransaction p f tb) ≡ noTransaction
-  unfolding changeTransaction
-  at-none n = at-outside p (changeAt p f (tb .transactions)) (λ h. n (record { low = h .low; high = rw (length-change f 1 p (tb .transactions)) at (h .high) }))
-
   -- at p stands what f made of what stood there; where there is no such place, nothing
   pub at-changed : {C : Type 0} → (transactionAt p (changeTransaction p f tb) ≡ f (transactionAt p tb) → C) → (transactionAt p (changeTransaction p f tb) ≡ noTransaction → C) → C
-  at-changed g h = by-test (leb 1 p && leb p (length (tb .transactions)))
-      (λ e. g (at-own (record { low = leb-true 1 p (true-and (leb 1 p) (leb p (length (tb .transactions))) e .0); high = leb-true p (length (tb .transactions)) (true-and (leb 1 p) (leb p (length (tb .transactions))) e .1) })))
-      (λ e. h (at-none (λ i. no-clash (leb 1 p && leb p (length (tb .transactions))) (rw (le-leb 1 p (i .low), le-leb p (length (tb .transactions)) (i .high)) refl) e)))
+  at-changed g = by-place p (changeTransaction p f tb .transactions) (λ i. g (at-own (record { low = i .low; high = omega (arith, i .high, as-many) })))
 
   -- of a name that stands at p neither before nor after
   pub named-kept : (u : Id) → isNamed u (transactionAt p tb) ≡ false → isNamed u (f (transactionAt p tb)) ≡ false → (q : ℕ) → isNamed u (transactionAt q (changeTransaction p f tb)) ≡ isNamed u (transactionAt q tb)

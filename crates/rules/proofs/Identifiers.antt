@@ -8,10 +8,11 @@ use lib.ListN.{length, replicate}
 use lib.Dec.{eqb, ltb}
 use borrow.Author.Tests.{eqb-true, eqb-false, eq-eqb, ne-eqb, ltb-true, ltb-false, le-ltb}
 use Rattle.lists.specs.Lists.{all}
-use Rattle.lists.proofs.Tests.{by-test, true-and, is-false}
+use Rattle.lists.proofs.Tests.{by-test, true-and, is-false, no-clash}
 use Rattle.lists.proofs.Sorting.{Orders}
 use Rattle.rules.specs.Sizes.{identifierSize}
 use Rattle.rules.specs.Identifiers.{Id, zeroId, isZero, sameBytes, lessBytes}
+use Rattle.rules.specs.Sound.{Identifier}
 
 -- ── the same ────────────────────────────────────────────────────────────────────────────────────────────────────
 
@@ -49,6 +50,12 @@ zero-is = refl
 
 pub equal-zero : (t : Id) → t ≡ zeroId → isZero t ≡ true
 equal-zero t e = rw e zero-is
+
+pub identifier-nonzero : (t : Id) → Identifier t → isZero t ≡ false
+identifier-nonzero t i = is-false (isZero t) (λ e. i .1 (zero-equal t (i .0) e))
+
+pub nonzero-identifier : (t : Id) → length t ≡ identifierSize → isZero t ≡ false → Identifier t
+nonzero-identifier t l z = (l, λ e. no-clash (isZero t) (equal-zero t e) z)
 
 -- ── less ────────────────────────────────────────────────────────────────────────────────────────────────────────
 

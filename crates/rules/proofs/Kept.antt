@@ -3,29 +3,27 @@
 use Prim.Native.Nat.{ℕ, _≤_}
 use native.Mathlib.Omega.{arith}
 use mathlib.Core.Path.{_≡_, refl, sym, _∙_, ap, subst}
-use mathlib.Core.Logic.{_⊎_}
-use mathlib.Core.Bool.{true, _&&_}
+use mathlib.Core.Bool.{true, _&&_, Bool, cond}
 use mathlib.Core.List.{List, map}
-use lib.ListN.{length}
 use lib.Dec.{eqb}
 use borrow.Author.Tests.{eqb-true, eqb-false, ne-eqb}
 use Rattle.lists.specs.Lists.{filter}
 use Rattle.lists.specs.Members.{Each, Apart}
 use Rattle.lists.specs.Places.{at, changeAt}
-use Rattle.lists.proofs.Tests.{by-test, by-either, no-clash, true-and, and-true, false-not, not-true, filter-filter}
+use Rattle.lists.proofs.Tests.{by-test, by-either, no-clash, true-and, and-true, false-not, not-true, filter-filter, by-cond}
 use Rattle.lists.proofs.Places.{IsPlace, place-or-nothing, length-change, at-change-same, at-change-other}
 use Rattle.rules.specs.declared.Transaction.{Transaction}
 use Rattle.rules.specs.declared.Enlistment.{Enlistment}
 use Rattle.rules.specs.declared.Table.{Table}
-use Rattle.rules.specs.Sizes.{heldMost, headerSize, largestCapacity}
+use Rattle.rules.specs.Sizes.{headerSize, largestCapacity}
 use Rattle.rules.specs.Marks as mark
 use Rattle.rules.specs.Table.{noTransaction, noEnlistment, isLive, isHeld, isDurable, heldBy, held, transactionAt, inState, inTransactionState, ended, withTransactions, withEnlistments, changeTransaction, goTo, useMore}
-use Rattle.rules.specs.Sound.{PhaseZero, Volatile, Durable, Live, Held, Identifier, Number, Sound}
+use Rattle.rules.specs.Sound.{PhaseZero, Live, Held, Identifier, Number, Sound, Known, SameIdentifier, SameNumber, SameManager, HoldersLive, FewHeld}
 use Rattle.rules.proofs.Along.{Along, along-each, along-map, along-change, along-few, along-apart}
 
 -- what soundness asks of an enlistment by itself, and of a transaction
 pub record Proper (e : Enlistment) : Type 0 where
-  pub kind : Held e → (PhaseZero e ⊎ (Volatile e ⊎ Durable e)) × (e .mark ≤ mark.marked)
+  pub kind : Held e → Known e
   pub manager : Held e → Identifier (e .rm .0)
   pub number : Held e → Number (e .number)
   pub unmarked : Held e → PhaseZero e → e .mark ≡ mark.unmarked
@@ -37,19 +35,19 @@ pub record Named (x : Transaction) : Type 0 where
 
 pub record KeptEnlistments (es : List Enlistment) : Type 0 where
   pub proper : Each Proper es
-  pub numbers-differ : Apart (λ e f. e .number ≡ f .number) (filter isHeld es)
-  pub managers-differ : Apart (λ e f. (e .holder ≡ f .holder) × (e .rm .0 ≡ f .rm .0)) (filter isDurable (filter isHeld es))
+  pub numbers-differ : Apart SameNumber (filter isHeld es)
+  pub managers-differ : Apart SameManager (filter isDurable (filter isHeld es))
 
 pub record KeptTransactions (xs : List Transaction) : Type 0 where
   pub named : Each Named xs
-  pub differ : Apart (λ x y. x .id .0 ≡ y .id .0) (filter isLive xs)
+  pub differ : Apart SameIdentifier (filter isLive xs)
 
 -- the sentences of Sound, but for states and room
 pub record Kept (tb : Table) : Type 0 where
   pub enlistments : KeptEnlistments (tb .enlistments)
   pub transactions : KeptTransactions (tb .transactions)
-  pub holders-live : Each (λ e. Held e → Live (transactionAt (e .holder) tb)) (tb .enlistments)
-  pub few : (p : ℕ) → Live (transactionAt p tb) → length (held p tb) ≤ heldMost
+  pub holders-live : HoldersLive tb
+  pub few : FewHeld tb
   pub header-used : headerSize ≤ tb .used
   pub capacity-small : tb .capacity ≤ largestCapacity
 
@@ -94,6 +92,10 @@ held-true e h = false-not (ne-eqb (e .holder) 0 h)
 pub true-held : (e : Enlistment) → isHeld e ≡ true → Held e
 true-held e t = eqb-false (e .holder) 0 (not-true _ t)
 
+-- what the transaction at a place holds is held
+pub by-held : (p : ℕ) → (p ≡ 0 → ⊥) → (e : Enlistment) → heldBy p e ≡ true → isHeld e ≡ true
+by-held p n e t = held-true e (λ z. n (sym (eqb-true (e .holder) p t) ∙ z))
+
 -- ── enlistments ─────────────────────────────────────────────────────────────────────────────────────────────────
 
 -- what a change makes of an enlistment
@@ -114,6 +116,13 @@ pub record SameKey (e e′ : Enlistment) : Type 0 where
   pub number : e′ .number ≡ e .number
   pub kind : e′ .kind ≡ e .kind
   pub mark : e′ .mark ≡ e .mark
+
+pub key-same : (e : Enlistment) → SameKey e e
+key-same e = record { holder = refl; rm = refl; number = refl; kind = refl; mark = refl }
+
+-- either another state, or as it was
+pub key-either : {e x : Enlistment} (b : Bool) (s : ℕ) → SameKey e x → SameKey e (cond b (inState s e) x)
+key-either {e} b s k = by-cond (SameKey e) b (record { holder = refl; rm = refl; number = refl; kind = refl; mark = refl }) k
 
 pub keeping-key : {e e′ : Enlistment} → Keeping e e′ → Held e′ → SameKey e e′
 keeping-key (stays q) h = record { holder = ap (λ x. x .holder) q; rm = ap (λ x. x .rm) q; number = ap (λ x. x .number) q; kind = ap (λ x. x .kind) q; mark = ap (λ x. x .mark) q }

@@ -11,7 +11,7 @@ use lib.Dec.{eqb, leb}
 use borrow.Author.Tests.{eqb-true, eqb-false, leb-false}
 use Rattle.lists.specs.Lists.{all, any, none}
 use Rattle.lists.specs.Members.{Each, Some}
-use Rattle.lists.proofs.Tests.{by-test, by-either, no-clash, is-false, true-or, false-or, not-false}
+use Rattle.lists.proofs.Tests.{by-test, by-either, is-false, true-or, false-or, not-false}
 use Rattle.rules.specs.declared.Enlistment.{Enlistment}
 use Rattle.rules.specs.declared.Table.{Table}
 use Rattle.rules.specs.declared.Event.{Event}
@@ -25,18 +25,18 @@ use Rattle.rules.specs.EnlistmentState as enlistment
 use Rattle.rules.specs.Sizes.{identifierSize, largestNumber, heldMost}
 use Rattle.rules.specs.Identifiers.{Id, isZero}
 use Rattle.rules.specs.Table.{isVacant, isDurableOf, durableKind, placeNamed, transactionAt, stateAt, held, numbered}
-use Rattle.rules.specs.Sound.{In, HoldsWell, Live, Identifier, Sound}
+use Rattle.rules.specs.Sound.{In, HoldsWell, Live, Sound}
 use Rattle.rules.specs.Events.{kindOf, reactedOf, acted, acceptedOf}
 use Rattle.rules.specs.Refusals.{numberIn, isNumberHeld, Check, firstOf, refusalOf}
 use Rattle.rules.specs.Checks.{aboutOneChecks}
-use Rattle.rules.proofs.Identifiers.{equal-zero}
+use Rattle.rules.proofs.Identifiers.{nonzero-identifier}
 use Rattle.rules.proofs.Checks.{areNumbered, passes-at, firstTwo, refusal-checks}
 use Rattle.rules.proofs.Put.{freePlace}
-use Rattle.rules.proofs.Parts.{Part, Abortable, abort-part}
+use Rattle.rules.proofs.Parts.{Part, abort-part}
 use Rattle.rules.proofs.Kept.{Kept, sound-kept, live-some}
 use Rattle.rules.proofs.Only.{Room}
 use Rattle.rules.proofs.Phases.{commit-part}
-use Rattle.rules.proofs.Reacting.{zeroing-range, Named, is-named, reacted-part}
+use Rattle.rules.proofs.Reacting.{Named, is-named, reacted-part, may-abort}
 use Rattle.rules.proofs.Entered.{named-live, begin-part, enlist-part}
 use Rattle.rules.proofs.Told.{ask-part, reenlisted-well, reenlisted-kept, reenlisted-room, reenlisted-capacity, reenlisted-others}
 
@@ -120,19 +120,8 @@ in-active (HoldsWell.single-phase q n h) z = absurd (omega arith)
 in-active (HoldsWell.committing q n h x) z = absurd (omega arith)
 in-active (HoldsWell.aborting q h x) z = absurd (omega arith)
 
-rolled-back : {s : ℕ} {hs : List Enlistment} → HoldsWell s hs → s ≤ transaction.phaseZero → Each Abortable hs
-rolled-back (HoldsWell.active q h) z = λ e m. inl (omega (arith, h e m), omega (arith, h e m))
-rolled-back (HoldsWell.phase-zero q h x) z = λ e m. inl (omega (arith, zeroing-range e (h e m)), omega (arith, zeroing-range e (h e m)))
-rolled-back (HoldsWell.phase-one q n h x) z = absurd (omega arith)
-rolled-back (HoldsWell.single-phase q n h) z = absurd (omega arith)
-rolled-back (HoldsWell.committing q n h x) z = absurd (omega arith)
-rolled-back (HoldsWell.aborting q h x) z = absurd (omega arith)
-
-active-or-zero : (s : ℕ) → not (eqb s transaction.active || eqb s transaction.phaseZero) ≡ false → (s ≡ transaction.active) ⊎ (s ≡ transaction.phaseZero)
+pub active-or-zero : (s : ℕ) → not (eqb s transaction.active || eqb s transaction.phaseZero) ≡ false → (s ≡ transaction.active) ⊎ (s ≡ transaction.phaseZero)
 active-or-zero s t = by-either (λ c. inl (eqb-true s transaction.active c)) (λ c. inr (eqb-true s transaction.phaseZero c)) (true-or (eqb s transaction.active) (eqb s transaction.phaseZero) (not-false _ t))
-
-identifier : (t : Id) → length t ≡ identifierSize → isZero t ≡ false → Identifier t
-identifier t l z = (l, λ c. no-clash (isZero t) (equal-zero t c) z)
 
 module _ (tb : Table) (e : Event) (log : List ℕ) (fine : refusalOf tb e (length log) ≡ refusal.accepted) where
   abbrev t : Id
@@ -166,7 +155,7 @@ module _ (tb : Table) (e : Event) (log : List ℕ) (fine : refusalOf tb e (lengt
     module _ (y : Typed e) where
       begin-own : e .act ≡ act.Begin → Part (freePlace tb) tb (acted act.Begin t r tb log .table)
       unfolding acted all
-      begin-own q = begin-part t tb log s (identifier t (y .tx) (fails _ 2 refl (refusal-checks tb e (length log) act.Begin q)))
+      begin-own q = begin-part t tb log s (nonzero-identifier t (y .tx) (fails _ 2 refl (refusal-checks tb e (length log) act.Begin q)))
           (eqb-true p 0 (not-false _ (fails _ 3 refl (refusal-checks tb e (length log) act.Begin q))))
           (not-false _ (fails _ 4 refl (refusal-checks tb e (length log) act.Begin q)))
 
@@ -177,7 +166,7 @@ module _ (tb : Table) (e : Event) (log : List ℕ) (fine : refusalOf tb e (lengt
           enlist-part p n r k m tb log s (record {
             live = named-live t tb (eqb-false p 0 (fails _ 3 refl c));
             state = active-or-zero (stateAt p tb) (fails _ 4 refl c);
-            rm = identifier r (y .rm) (false-or (isZero t) (isZero r) (false-or (isZero t || isZero r) (eqb n 0) (fails _ 2 refl c) .0) .1);
+            rm = nonzero-identifier r (y .rm) (false-or (isZero t) (isZero r) (false-or (isZero t || isZero r) (eqb n 0) (fails _ 2 refl c) .0) .1);
             number = (eqb-false n 0 (false-or (isZero t || isZero r) (eqb n 0) (fails _ 2 refl c) .1), subst (λ a. numberIn a ≤ largestNumber) q (y .number));
             not-numbered = false-or (isNumberHeld n tb) (durableKind (kindOf k) && any (isDurableOf r) (held p tb)) (fails _ 5 refl c) .0;
             no-second = false-or (isNumberHeld n tb) (durableKind (kindOf k) && any (isDurableOf r) (held p tb)) (fails _ 5 refl c) .1;
@@ -196,7 +185,7 @@ module _ (tb : Table) (e : Event) (log : List ℕ) (fine : refusalOf tb e (lengt
       rollback-own q =
           let c = refusal-checks tb e (length log) act.Rollback q in
           let l : Live (transactionAt p tb) = rollback-live q in
-          abort-part p tb log (sound-kept s) l (rolled-back (s .states p l) (by-either (λ z. omega arith) (λ z. omega arith) (active-or-zero (stateAt p tb) (fails _ 4 refl c))))
+          abort-part p tb log (sound-kept s) l (may-abort (s .states p l) (by-either (λ z. omega arith) (λ z. omega arith) (active-or-zero (stateAt p tb) (fails _ 4 refl c))))
 
       ask-own : Part p tb (acted act.Ask t r tb log .table)
       unfolding acted

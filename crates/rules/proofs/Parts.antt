@@ -8,23 +8,24 @@ use mathlib.Core.Bool.{true, false, not}
 use mathlib.Core.List.{List}
 use lib.ListN.{length}
 use borrow.Author.Tests.{eqb-true, eqb-false, lt-ltb, le-leb}
-use Rattle.lists.specs.Lists.{all}
+use Rattle.lists.specs.Lists.{all, any}
 use Rattle.lists.specs.Members.{Each, Some}
 use Rattle.lists.proofs.Tests.{by-test, by-either, no-clash, and-true, true-and, not-true, any-some, not-all}
-use Rattle.lists.proofs.Places.{IsPlace}
+use Rattle.lists.proofs.Places.{IsPlace, at-member}
 use Rattle.rules.specs.declared.Enlistment.{Enlistment}
 use Rattle.rules.specs.declared.Table.{Table}
 use Rattle.rules.specs.Sizes.{recordSize, identifierSize}
 use Rattle.rules.specs.TransactionState as transaction
 use Rattle.rules.specs.EnlistmentState as enlistment
 use Rattle.rules.specs.Identifiers.{Id}
-use Rattle.rules.specs.Table.{noTransaction, isIn, isDone, held, transactionAt, stateAt, idAt, inTransactionState, freed, ended, changeHeld, goTo, emptied, useMore}
-use Rattle.rules.specs.Sound.{isOpen, openCount, In, HoldsWell, Live}
+use Rattle.rules.specs.Table.{noTransaction, isIn, isDone, held, transactionAt, stateAt, idAt, inTransactionState, freed, ended, changeHeld, goTo, emptied, useMore, isDurable}
+use Rattle.rules.specs.Sound.{isOpen, openCount, In, HoldsWell, Live, Sound}
 use Rattle.rules.specs.Log.{Record, recordBytes}
-use Rattle.rules.specs.Events.{append, endOf, endIfDone, hearsAbort, abortedOf, abortOf, committing}
+use Rattle.rules.specs.Events.{append, endOf, endIfDone, hearsAbort, abortedOf, abortOf, committing, quietly}
 use Rattle.rules.proofs.Frames.{held-transaction, at-own}
-use Rattle.rules.proofs.Kept.{Kept, stays, moves, kept-state, kept-use, live-place, live-some}
+use Rattle.rules.proofs.Kept.{Kept, stays, moves, kept-state, kept-use, live-place, live-some, sound-kept}
 use Rattle.rules.proofs.Only.{Only, only-same, only-then, Keeps, only-held, kept-held, only-transaction, only-use, at-emptied-place, at-changed, used-held, used-transaction, open-use, each-changed, only-emptied, kept-emptied, openAt, open-changes, Room, room-kept}
+use lib.Dec.{eqb}
 
 -- What a part of a step gives.
 pub record Part (p : ℕ) (tb tb′ : Table) : Type 0 where
@@ -33,17 +34,25 @@ pub record Part (p : ℕ) (tb tb′ : Table) : Type 0 where
   pub well : Live (transactionAt p tb′) → HoldsWell (stateAt p tb′) (held p tb′)
   pub room : Room tb → Room tb′
 
+-- nothing changes
+pub part-same : (p : ℕ) {tb : Table} → Sound tb → Part p tb tb
+part-same p {tb} s = record { only = only-same p tb; kept = sound-kept s; well = s .states p; room = λ r. r }
+
+-- places stay places
+pub places-kept : {p : ℕ} {tb tb′ : Table} {qs : List ℕ} → Only p tb tb′ → Each (λ q. IsPlace (tb .transactions) q) qs → Each (λ q. IsPlace (tb′ .transactions) q) qs
+places-kept o h q m = record { low = h q m .low; high = omega (arith, o .as-many, h q m .high) }
+
 pub part-then : {p : ℕ} {a b c : Table} → Only p a b → (Room a → Room b) → Part p b c → Part p a c
 part-then o r h = record { only = only-then o (h .only); kept = h .kept; well = h .well; room = λ q. h .room (r q) }
 
 -- ── the end ─────────────────────────────────────────────────────────────────────────────────────────────────────
 
-forget-length : (t : Id) → length t ≡ identifierSize → length (recordBytes (Record.forget t)) ≡ recordSize
+pub forget-length : (t : Id) → length t ≡ identifierSize → length (recordBytes (Record.forget t)) ≡ recordSize
 unfolding recordBytes
 forget-length t e = omega arith
 
 pub id-length : (p : ℕ) (tb : Table) → Kept tb → Live (transactionAt p tb) → length (idAt p tb) ≡ identifierSize
-id-length p tb k l = k .transactions .named (transactionAt p tb) (Rattle.lists.proofs.Places.at-member noTransaction (tb .transactions) (live-place p tb l)) .identifier l .0
+id-length p tb k l = k .transactions .named (transactionAt p tb) (at-member noTransaction (tb .transactions) (live-place p tb l)) .identifier l .0
 
 not-open-emptied : (p : ℕ) (tb : Table) → openAt p (emptied p tb) ≡ false
 not-open-emptied p tb = ap (λ x. isOpen (x .state) (held p (emptied p tb))) (at-emptied-place p tb)
@@ -51,39 +60,53 @@ not-open-emptied p tb = ap (λ x. isOpen (x .state) (held p (emptied p tb))) (at
 pub used-emptied : (p : ℕ) (tb : Table) → emptied p tb .used ≡ tb .used
 used-emptied p tb = used-transaction p ended (changeHeld p freed tb) ∙ used-held p freed tb
 
+-- what is open is in Committing, so that it is live
+pub open-committing : (s : ℕ) (hs : List Enlistment) → isOpen s hs ≡ true → s ≡ transaction.committing
+open-committing s hs t = eqb-true s transaction.committing (true-and (eqb s transaction.committing) (any isDurable hs) t .0)
+
+pub open-live : (p : ℕ) (tb : Table) → openAt p tb ≡ true → Live (transactionAt p tb)
+open-live p tb t z = omega (arith, z, open-committing (stateAt p tb) (held p tb) t)
+
+-- the two ways in which a transaction ends
+module _ (p : ℕ) (tb : Table) (log : List ℕ) where
+  pub open-end : openAt p tb ≡ true → endOf p tb log ≡ append (Record.forget (idAt p tb)) (emptied p tb) log
+  unfolding endOf
+  open-end t = rw t
+
+  pub closed-end : openAt p tb ≡ false → endOf p tb log ≡ quietly (emptied p tb) log
+  unfolding endOf
+  closed-end t = rw t
+
 -- at any place
 pub end-at : (p : ℕ) (tb : Table) (log : List ℕ) → Kept tb → IsPlace (tb .transactions) p → Part p tb (endOf p tb log .table)
-unfolding endOf append useMore
+unfolding append useMore
 end-at p tb log k i =
     let n : p ≡ 0 → ⊥ = λ z. omega (arith, z, i .low) in
     let o : Only p tb (emptied p tb) = only-emptied p tb n in
     let gone : Live (transactionAt p (emptied p tb)) → ⊥ = λ m. m (ap (λ x. x .state) (at-emptied-place p tb)) in
     by-test (openAt p tb)
-    (λ t. rw t (record {
+    (λ t. rw (open-end p tb log t) (record {
       only = only-then o (only-use p _ (emptied p tb));
       kept = kept-use _ (kept-emptied p tb n k);
       well = λ m. absurd (gone m);
       room = λ r. written-room o t r;
     }))
-    (λ t. rw t (record {
+    (λ t. rw (closed-end p tb log t) (record {
       only = o;
       kept = kept-emptied p tb n k;
       well = λ m. absurd (gone m);
       room = room-kept p tb (emptied p tb) o i (used-emptied p tb) (λ c. no-clash _ c (not-open-emptied p tb));
     }))
   where
-    open-live : openAt p tb ≡ true → Live (transactionAt p tb)
-    open-live t z = omega (arith, z, eqb-true (stateAt p tb) transaction.committing (true-and _ _ t .0))
-
     written-room : Only p tb (emptied p tb) → openAt p tb ≡ true → Room tb → Room (useMore (length (recordBytes (Record.forget (idAt p tb)))) (emptied p tb))
     written-room o t r =
         let c : openCount (emptied p tb) + 1 ≡ openCount tb + 0 = rw (t, not-open-emptied p tb) at (open-changes p tb (emptied p tb) o i) in
-        omega (arith, r, c, o .same-capacity, used-emptied p tb, open-use (length (recordBytes (Record.forget (idAt p tb)))) (emptied p tb), forget-length (idAt p tb) (id-length p tb k (open-live t)))
+        omega (arith, r, c, o .same-capacity, used-emptied p tb, open-use (length (recordBytes (Record.forget (idAt p tb)))) (emptied p tb), forget-length (idAt p tb) (id-length p tb k (open-live p tb t)))
 
 -- nothing is live there any more
 pub end-over : (p : ℕ) (tb : Table) (log : List ℕ) → transactionAt p (endOf p tb log .table) ≡ noTransaction
-unfolding endOf append useMore
-end-over p tb log = by-test (openAt p tb) (λ t. rw t (at-emptied-place p tb)) (λ t. rw t (at-emptied-place p tb))
+unfolding append useMore
+end-over p tb log = by-test (openAt p tb) (λ t. rw (open-end p tb log t) (at-emptied-place p tb)) (λ t. rw (closed-end p tb log t) (at-emptied-place p tb))
 
 pub end-part : (p : ℕ) (tb : Table) (log : List ℕ) → Kept tb → Live (transactionAt p tb) → Part p tb (endOf p tb log .table)
 end-part p tb log k l = end-at p tb log k (live-place p tb l)

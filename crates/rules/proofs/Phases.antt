@@ -11,7 +11,7 @@ use borrow.Author.Tests.{eqb-true, eqb-false, eq-eqb, ne-eqb, ltb-false}
 use Rattle.lists.specs.Lists.{all, any, none, filter}
 use Rattle.lists.specs.Members.{_∈_, Each, Some}
 use Rattle.lists.specs.Sorting.{sortBy}
-use Rattle.lists.proofs.Tests.{by-test, true-and, not-true, all-each, any-some, none-each, each-none, of-filter, each-map}
+use Rattle.lists.proofs.Tests.{by-test, true-and, not-true, all-each, any-some, none-each, each-none, of-filter, each-map, filter-map}
 use Rattle.lists.proofs.Sorting.{length-sort, of-sort}
 use Rattle.rules.specs.declared.Enlistment.{Enlistment}
 use Rattle.rules.specs.declared.Table.{Table}
@@ -24,7 +24,7 @@ use Rattle.rules.specs.Signals.{byNumber}
 use Rattle.rules.specs.Log.{Entry, recordBytes, commitSize}
 use Rattle.rules.specs.Events.{append, entryOf, commitRecord, lacksRoom, committedOf, endCommitted, decideOf, startPhaseOne, zeroedOf, commitOf}
 use Rattle.rules.proofs.Frames.{of-held}
-use Rattle.rules.proofs.Kept.{Kept, stays, moves, live-some}
+use Rattle.rules.proofs.Kept.{Kept, stays, moves, live-some, SameKey, key-same, key-either}
 use Rattle.rules.proofs.Only.{Keeps, each-changed, some-changed}
 use Rattle.rules.proofs.Records.{entries-length}
 use Rattle.rules.proofs.Parts.{Part, id-length, end-part, moved-part, written-part, Abortable, abort-part}
@@ -34,15 +34,9 @@ use Rattle.rules.proofs.Parts.{Part, id-length, end-part, moved-part, w
 pub goes-to : (s : ℕ) → Keeps (inState s)
 goes-to s e h = moves h s refl
 
-held-in-list : (p s : ℕ) (es : List Enlistment) → filter (heldBy p) (map (onHeld p (inState s)) es) ≡ map (inState s) (filter (heldBy p) es)
-unfolding filter
-held-in-list p s [] = refl
-held-in-list p s (e ∷ es) = by-test (heldBy p e) (λ t. rw (t, t) (ap (λ l. inState s e ∷ l) (held-in-list p s es))) (λ t. rw (t, t) (held-in-list p s es))
-
--- what is held, all of it in state s
-held-in : (p s : ℕ) (tb : Table) → held p (changeHeld p (inState s) tb) ≡ map (inState s) (held p tb)
+held-long : (p s : ℕ) (tb : Table) → length (held p (changeHeld p (inState s) tb)) ≡ length (held p tb)
 unfolding held changeHeld
-held-in p s tb = held-in-list p s (tb .enlistments)
+held-long p s tb = ap length (filter-map (onHeld p (inState s)) (heldBy p) (λ e. ap (λ z. eqb z p) (key-either (heldBy p e) s (key-same e) .holder)) (tb .enlistments)) ∙ length-map (filter (heldBy p) (tb .enlistments)) (onHeld p (inState s))
 
 some-of : {A : Type 0} (xs : List A) → (length xs ≡ 0 → ⊥) → Some (λ x. x ∈ xs) xs
 some-of [] n = absurd (n refl)
@@ -61,7 +55,7 @@ module _ (p : ℕ) (tb : Table) (log : List ℕ) (k : Kept tb) (l : Live (transa
     where
       single : (eqb (length (held p tb)) 1 ≡ true) × (all isMarked (held p tb) ≡ true) → HoldsWell transaction.singlePhase (held p (changeHeld p (inState enlistment.onePhase) tb))
       single c = HoldsWell.single-phase refl
-          (ap length (held-in p enlistment.onePhase tb) ∙ length-map (held p tb) (inState enlistment.onePhase) ∙ eqb-true _ 1 (c .0))
+          (held-long p enlistment.onePhase tb ∙ eqb-true _ 1 (c .0))
           (each-changed p (inState enlistment.onePhase) tb _ (λ e m q. (h e m, eqb-true _ _ (all-each isMarked (held p tb) (c .1) e m), refl)))
 
       preparing : (length (held p tb) ≡ 0 → ⊥) → HoldsWell transaction.phaseOne (held p (changeHeld p (inState enlistment.preparing) tb))
@@ -86,8 +80,8 @@ zeroed e a = by-test (isPhaseZero e)
     (λ t. rw t (inl (eqb-true _ _ t, refl)))
     (λ t. rw t (inr (eqb-false _ _ t, a)))
 
-zeroed-kind : (e : Enlistment) → (zeroedOf e .kind ≡ e .kind) × (zeroedOf e .holder ≡ e .holder)
-zeroed-kind e = by-test (isPhaseZero e) (λ t. rw t (refl, refl)) (λ t. rw t (refl, refl))
+pub zeroed-key : (e : Enlistment) → SameKey e (zeroedOf e)
+zeroed-key e = key-either (isPhaseZero e) enlistment.zero (key-same e)
 
 module _ (p : ℕ) (tb : Table) (log : List ℕ) (k : Kept tb) (l : Live (transactionAt p tb)) where
   pub commit-part : Each (In enlistment.active) (held p tb) → Part p tb (commitOf p tb log .table)
@@ -102,7 +96,7 @@ module _ (p : ℕ) (tb : Table) (log : List ℕ) (k : Kept tb) (l : Live (transa
           (some-changed p zeroedOf tb (record {
             it = s .it;
             there = s .there;
-            holds = (zeroed-kind (s .it) .1 ∙ of-held p tb (s .there) .1, zeroed-kind (s .it) .0 ∙ eqb-true _ _ (s .holds));
+            holds = (zeroed-key (s .it) .holder ∙ of-held p tb (s .there) .1, zeroed-key (s .it) .kind ∙ eqb-true _ _ (s .holds));
           }))
 
 -- ── Decide ──────────────────────────────────────────────────────────────────────────────────────────────────────
@@ -113,15 +107,17 @@ commits e h = by-test (isIn enlistment.prepared e)
     (λ t. rw t (moves h _ refl))
     (λ t. rw t (by-test (isIn enlistment.preparedLost e) (λ c. rw c (moves h _ refl)) (λ c. rw c (stays refl))))
 
-committed-kind : (e : Enlistment) → (committedOf e .kind ≡ e .kind) × (committedOf e .holder ≡ e .holder)
+pub committed-key : (e : Enlistment) → SameKey e (committedOf e)
 unfolding committedOf
-committed-kind e = by-test (isIn enlistment.prepared e)
-    (λ t. rw t (refl, refl))
-    (λ t. rw t (by-test (isIn enlistment.preparedLost e) (λ c. rw c (refl, refl)) (λ c. rw c (refl, refl))))
+committed-key e = key-either (isIn enlistment.prepared e) enlistment.toldCommit (key-either (isIn enlistment.preparedLost e) enlistment.failedToNotify (key-same e))
 
 -- once no one is Preparing
 abbrev pub Voted : Enlistment → Type 0
 Voted e = In enlistment.prepared e ⊎ (In enlistment.preparedLost e × Durable e)
+
+pub voted-abortable : (e : Enlistment) → Voted e → Abortable e
+voted-abortable e (inl q) = inl (omega arith, omega arith)
+voted-abortable e (inr q) = inr (inl (q .0))
 
 -- how an enlistment stands in Committing
 abbrev pub Committed : Enlistment → Type 0
@@ -155,24 +151,20 @@ module _ (p : ℕ) (tb : Table) (k : Kept tb) (l : Live (transactionAt p tb)) wh
       (λ t. rw t (by-test (none isDurable (held p tb))
       (λ c. rw c (moved-part p transaction.committing committedOf tb k l commits (λ z. omega arith) (closed (not-true _ c)) (committing (eqb-false _ 0 t))))
       (λ c. rw c (by-test (lacksRoom (length (filter isDurable (held p tb))) tb)
-      (λ d. rw d (abort-part p tb log k l (λ e m. abortable e (v e m))))
+      (λ d. rw d (abort-part p tb log k l (λ e m. voted-abortable e (v e m))))
       (λ d. rw d (written-part p transaction.committing committedOf tb k l commits _ (λ z. omega arith) (fits (ltb-false _ _ d)) (committing (eqb-false _ 0 t))))))))
     where
       closed : any isDurable (held p tb) ≡ false → isOpen transaction.committing (held p (changeHeld p committedOf tb)) ≡ false
-      closed c = each-none isDurable _ (each-changed p committedOf tb (λ e. isDurable e ≡ false) (λ e m q. rw (committed-kind e .0) (none-each isDurable (held p tb) c e m)))
+      closed c = each-none isDurable _ (each-changed p committedOf tb (λ e. isDurable e ≡ false) (λ e m q. rw (committed-key e .kind) (none-each isDurable (held p tb) c e m)))
 
       committing : (length (held p tb) ≡ 0 → ⊥) → HoldsWell transaction.committing (held p (changeHeld p committedOf tb))
       committing n =
           let s = some-of (held p tb) n in
           HoldsWell.committing refl
-          (each-changed p committedOf tb (λ e. PhaseZero e → ⊥) (λ e m q c. h e m (sym (committed-kind e .0) ∙ c)))
+          (each-changed p committedOf tb (λ e. PhaseZero e → ⊥) (λ e m q c. h e m (sym (committed-key e .kind) ∙ c)))
           (each-changed p committedOf tb Committed (λ e m q. committed e (v e m) .0))
-          (some-changed p committedOf tb (record { it = s .it; there = s .there; holds = (committed-kind (s .it) .1 ∙ of-held p tb (s .there) .1, committed (s .it) (v (s .it) (s .there)) .1) }))
+          (some-changed p committedOf tb (record { it = s .it; there = s .there; holds = (committed-key (s .it) .holder ∙ of-held p tb (s .there) .1, committed (s .it) (v (s .it) (s .there)) .1) }))
 
       fits : commitSize (length (filter isDurable (held p tb))) + recordSize * (1 + openCount tb) ≤ tb .capacity - tb .used
           → tb .used + length (recordBytes (commitRecord (idAt p tb) (held p tb))) + recordSize * (1 + openCount tb) ≤ tb .capacity
       fits f = omega (arith, f, record-length)
-
-      abortable : (e : Enlistment) → Voted e → Abortable e
-      abortable e (inl q) = inl (omega arith, omega arith)
-      abortable e (inr q) = inr (inl (q .0))

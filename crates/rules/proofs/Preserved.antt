@@ -50,7 +50,7 @@ by-step P tb e log done refused = by-test (eqb (refusalOf tb e (length log)) ref
     (λ t. let fine : refusalOf tb e (length log) ≡ refusal.accepted = eqb-true _ _ t in rw (step-done tb e log fine) (done fine))
     (λ t. rw (step-refused tb e log (eqb-false _ _ t)) (refused (refusalOf tb e (length log))))
 
-used-fits : {tb : Table} → Sound tb → tb .used ≤ tb .capacity
+pub used-fits : {tb : Table} → Sound tb → tb .used ≤ tb .capacity
 used-fits s = omega (arith, s .room)
 
 module _ (tb : Table) (e : Event) (log : List ℕ) (s : Sound tb) (y : Typed e) where

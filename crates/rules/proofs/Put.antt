@@ -1,15 +1,15 @@
 -- A new entry in the lowest empty place keeps what every change keeps: all others stand where they stood, and it is like none of them.
-use Prim.Native.Nat.{ℕ, _≤_, _<_}
+use Prim.Native.Nat.{ℕ, _<_}
 use native.Mathlib.Omega.{arith}
 use mathlib.Core.Path.{_≡_, sym, _∙_, subst}
-use mathlib.Core.Logic.{_⊎_, inl}
+use mathlib.Core.Logic.{inl}
 use mathlib.Core.Bool.{Bool, true, false, _&&_}
 use mathlib.Core.List.{List, []}
 use lib.ListN.{length}
 use lib.Dec.{eqb}
 use borrow.Author.Tests.{eqb-true, eqb-false, ne-eqb}
 use Rattle.lists.specs.Lists.{any}
-use Rattle.lists.specs.Members.{Each}
+use Rattle.lists.specs.Members.{Each, _∈_}
 use Rattle.lists.specs.Places.{at, placeOf, putLowest}
 use Rattle.lists.proofs.Tests.{by-test, by-either, is-false, true-and, true-not, of-filter, filter-filter, filter-none, and-false}
 use Rattle.lists.proofs.Places.{IsFirst, place-first, put-is, of-put, filter-put, at-change-same, at-change-other}
@@ -19,9 +19,10 @@ use Rattle.rules.specs.declared.Table.{Table}
 use Rattle.rules.specs.Sizes.{heldMost}
 use Rattle.rules.specs.Marks as mark
 use Rattle.rules.specs.Table.{noTransaction, isLive, isFree, isHeld, isVacant, isDurable, heldBy, held, transactionAt, withTransactions, withEnlistments}
-use Rattle.rules.specs.Sound.{PhaseZero, Volatile, Durable, Live, Held, Identifier, Number}
+use Rattle.rules.specs.Sound.{PhaseZero, Durable, Live, Held, Identifier, Number, Known}
 use Rattle.rules.proofs.Along.{put-apart, put-few}
 use Rattle.rules.proofs.Kept.{Kept, live-some, true-live, true-held}
+use Rattle.rules.proofs.Frames.{of-held}
 
 -- where no transaction is live, nothing is held
 pub held-nothing : (q : ℕ) (tb : Table) → Kept tb → (q ≡ 0 → ⊥) → transactionAt q tb .state ≡ 0 → held q tb ≡ []
@@ -29,6 +30,10 @@ unfolding held
 held-nothing q tb k n z = filter-none (heldBy q) (tb .enlistments) (λ e m. is-false (heldBy q e) (λ t.
     let h : e .holder ≡ q = eqb-true (e .holder) q t in
     k .holders-live e m (λ c. n (sym h ∙ c)) (rw h z)))
+
+-- and where one is, what it holds is held
+pub member-held : (q : ℕ) (tb : Table) → (q ≡ 0 → ⊥) → {e : Enlistment} → e ∈ held q tb → Held e
+member-held q tb n m z = n (sym (of-held q tb m .1) ∙ z)
 
 -- a list and one more, which stands in its lowest empty place
 put-each : {A : Type 0} {P : A → Type 0} (empty : A → Bool) (x : A) (xs : List A) → P x → Each P xs → Each P (putLowest empty x xs)
@@ -79,7 +84,7 @@ module _ (x : Transaction) (tb : Table) (some : any isFree (tb .transactions) �
 
 -- what it has to be
 pub record New (e : Enlistment) (tb : Table) : Type 0 where
-  pub kind : (PhaseZero e ⊎ (Volatile e ⊎ Durable e)) × (e .mark ≤ mark.marked)
+  pub kind : Known e
   pub rm : Identifier (e .rm .0)
   pub number : Number (e .number)
   pub live : Live (transactionAt (e .holder) tb)

@@ -24,13 +24,13 @@ use Rattle.rules.specs.declared.Reply.{Reply}
 use Rattle.rules.specs.TransactionState as transaction
 use Rattle.rules.specs.EnlistmentState as enlistment
 use Rattle.rules.specs.Table.{noEnlistment, isNumbered, numbered, isPhaseZero, isHeld, durableKind, isIn, held, transactionAt, stateAt, inState, freed, onNumber, changeNumber}
-use Rattle.rules.specs.Sound.{In, PhaseZero, Durable, HoldsWell, Live, Held, Sound}
+use Rattle.rules.specs.Sound.{In, PhaseZero, Durable, HoldsWell, Live, Held, Sound, heldOnes}
 use Rattle.rules.specs.Events.{toVote, toReply, toLost, reactionOf, follow, react, reactedOf}
 use Rattle.rules.proofs.Frames.{of-held, in-held}
 use Rattle.rules.proofs.Kept.{Kept, sound-kept, stays, live-some, held-true}
 use Rattle.rules.proofs.Only.{only-same, Keeps, frees, only-held, kept-held, at-changed, each-changed, some-changed, room-held}
-use Rattle.rules.proofs.Parts.{Part, part-then, end-part, end-if-done-part, Abortable, abort-part}
-use Rattle.rules.proofs.Phases.{goes-to, Zeroing, start-part, Voted, Committed, decide-part}
+use Rattle.rules.proofs.Parts.{Part, part-then, end-part, end-if-done-part, Abortable, abort-part, part-same}
+use Rattle.rules.proofs.Phases.{goes-to, Zeroing, start-part, Voted, Committed, decide-part, voted-abortable}
 
 -- ── which line of the table of states it is ─────────────────────────────────────────────────────────────────────
 
@@ -92,19 +92,26 @@ module _ {s : ℕ} {hs : List Enlistment} (e : Enlistment) (m : e ∈ hs) where
   in-aborting (HoldsWell.committing q n h x) z = absurd (committed-range e (h e m) .1 z)
   in-aborting (HoldsWell.aborting q h x) z = (q, h)
 
-  -- before the decision an abort can meet all that is held
-  before-decision : HoldsWell s hs → e .state ≤ enlistment.prepared → Each Abortable hs
-  before-decision (HoldsWell.active q h) z = λ f i. inl (omega (arith, h f i), omega (arith, h f i))
-  before-decision (HoldsWell.phase-zero q h x) z = λ f i. inl (omega (arith, zeroing-range f (h f i)), omega (arith, zeroing-range f (h f i)))
-  before-decision (HoldsWell.phase-one q n h x) z = λ f i. voting-abortable f (h f i)
-    where
-      voting-abortable : (f : Enlistment) → Voting f → Abortable f
-      voting-abortable f (inl a) = inl (omega arith, omega arith)
-      voting-abortable f (inr (inl a)) = inl (omega arith, omega arith)
-      voting-abortable f (inr (inr a)) = inr (inl (a .0))
+  before-decision : HoldsWell s hs → e .state ≤ enlistment.prepared → s ≤ transaction.phaseOne
+  before-decision (HoldsWell.active q h) z = omega arith
+  before-decision (HoldsWell.phase-zero q h x) z = omega arith
+  before-decision (HoldsWell.phase-one q n h x) z = omega arith
   before-decision (HoldsWell.single-phase q n h) z = absurd (omega (arith, h e m .2))
   before-decision (HoldsWell.committing q n h x) z = absurd (omega (arith, committed-range e (h e m)))
   before-decision (HoldsWell.aborting q h x) z = absurd (omega (arith, aborted-range e (h e m)))
+
+voting-abortable : (e : Enlistment) → Voting e → Abortable e
+voting-abortable e (inl a) = inl (omega arith, omega arith)
+voting-abortable e (inr a) = voted-abortable e a
+
+-- before the decision an abort can meet all that is held
+pub may-abort : {s : ℕ} {hs : List Enlistment} → HoldsWell s hs → s ≤ transaction.phaseOne → Each Abortable hs
+may-abort (HoldsWell.active q h) z = λ e m. inl (omega (arith, h e m), omega (arith, h e m))
+may-abort (HoldsWell.phase-zero q h x) z = λ e m. inl (omega (arith, zeroing-range e (h e m)), omega (arith, zeroing-range e (h e m)))
+may-abort (HoldsWell.phase-one q n h x) z = λ e m. voting-abortable e (h e m)
+may-abort (HoldsWell.single-phase q n h) z = absurd (omega arith)
+may-abort (HoldsWell.committing q n h x) z = absurd (omega arith)
+may-abort (HoldsWell.aborting q h x) z = absurd (omega arith)
 
 -- ── one enlistment changes ──────────────────────────────────────────────────────────────────────────────────────
 
@@ -116,17 +123,15 @@ pub record Named (n : ℕ) (tb : Table) (e : Enlistment) : Type 0 where
   pub here : e ∈ held (e .holder) tb
   pub live : Live (transactionAt (e .holder) tb)
   pub number : e .number ≡ n
-  pub alone : Each (λ f. f .number ≡ n → f ≡ e) (held (e .holder) tb)
+  pub alone : Each (λ f. f .number ≡ n → f ≡ e) (tb .enlistments)
 
 pub is-named : (n : ℕ) (tb : Table) → Sound tb → (n ≡ 0 → ⊥) → any (isNumbered n) (tb .enlistments) ≡ true → Named n tb (numbered n tb)
 unfolding numbered
 is-named n tb s z t = record {
   here = in-held (e .holder) tb (found .0) refl;
-  live = s .holders-live e (found .0) is-held;
+  live = s .holders-live e (found .0) (is-held (found .0) of-n);
   number = of-n;
-  alone = λ f m q.
-      let (i, h) = of-held (e .holder) tb m in
-      apart-one (λ x y. sym) (s .numbers-differ) (in-filter isHeld (tb .enlistments) i (held-true f (λ c. is-held (sym h ∙ c)))) (in-filter isHeld (tb .enlistments) (found .0) (held-true e is-held)) (q ∙ sym of-n);
+  alone = λ f m q. apart-one (λ x y. sym) (s .numbers-differ) (held-one m q) (held-one (found .0) of-n) (q ∙ sym of-n);
 }
   where
     e : Enlistment
@@ -138,8 +143,12 @@ is-named n tb s z t = record {
     of-n : e .number ≡ n
     of-n = eqb-true (e .number) n (found .1)
 
-    is-held : Held e
-    is-held q = z (sym of-n ∙ ap (λ x. x .number) (s .empty-enlistments e (found .0) q))
+    -- an empty place has no number
+    is-held : {f : Enlistment} → f ∈ tb .enlistments → f .number ≡ n → Held f
+    is-held {f} m q c = z (sym q ∙ ap (λ x. x .number) (s .empty-enlistments f m c))
+
+    held-one : {f : Enlistment} → f ∈ tb .enlistments → f .number ≡ n → f ∈ heldOnes tb
+    held-one {f} m q = in-filter isHeld (tb .enlistments) m (held-true f (is-held m q))
 
 module _ (n : ℕ) (tb : Table) (log : List ℕ) (e : Enlistment) (s : Sound tb) (d : Named n tb e) where
   abbrev p : ℕ
@@ -150,7 +159,7 @@ module _ (n : ℕ) (tb : Table) (log : List ℕ) (e : Enlistment) (s : Sound tb)
 
   each-one : (f : Enlistment → Enlistment) (P : Enlistment → Type 0) → (f e .holder ≡ p → P (f e)) → Each P (held p tb) → Each P (held p (changeNumber p n f tb))
   each-one f P one rest = each-changed p (onNumber n f) tb P (λ g m. by-test (isNumbered n g)
-      (λ t. rw (t, d .alone g m (eqb-true (g .number) n t)) one)
+      (λ t. rw (t, d .alone g (of-held p tb m .0) (eqb-true (g .number) n t)) one)
       (λ t. rw t (λ h. rest g m)))
 
   -- what follows goes on from here
@@ -176,7 +185,7 @@ module _ (n : ℕ) (tb : Table) (log : List ℕ) (e : Enlistment) (s : Sound tb)
 
   -- a refused reaction does nothing
   same-part : Part p tb tb
-  same-part = record { only = only-same p tb; kept = sound-kept s; well = λ m. well; room = λ r. r }
+  same-part = part-same p s
 
   -- ── what follows ──────────────────────────────────────────────────────────────────────────────────────────────
 
@@ -206,7 +215,7 @@ module _ (n : ℕ) (tb : Table) (log : List ℕ) (e : Enlistment) (s : Sound tb)
   then-abort : e .state ≤ enlistment.prepared → Part p tb (follow then.Abort p (changeNumber p n (inState enlistment.done) tb) log .table)
   unfolding follow
   then-abort z = part-one (inState enlistment.done) (goes-to enlistment.done) (abort-part p _ log (kept-one _ (goes-to enlistment.done)) (live-one _ (goes-to enlistment.done))
-      (each-one (inState enlistment.done) Abortable (λ c. inr (inr refl)) (before-decision e (d .here) well z)))
+      (each-one (inState enlistment.done) Abortable (λ c. inr (inr refl)) (may-abort well (before-decision e (d .here) well z))))
 
   then-end-with : (a : Name) → Part p tb (follow (then.EndWith a) p (changeNumber p n freed tb) log .table)
   unfolding follow
@@ -245,7 +254,7 @@ module _ (n : ℕ) (tb : Table) (log : List ℕ) (e : Enlistment) (s : Sound tb)
       other x = record {
         it = x .it;
         there = x .there;
-        holds = rw (ne-eqb (x .it .number) n (λ c. omega (arith, z, x .holds, ap (λ g. g .state) (d .alone (x .it) (x .there) c)))) (of-held p tb (x .there) .1, x .holds);
+        holds = rw (ne-eqb (x .it .number) n (λ c. omega (arith, z, x .holds, ap (λ g. g .state) (d .alone (x .it) (of-held p tb (x .there) .0) c)))) (of-held p tb (x .there) .1, x .holds);
       }
 
   -- "D in 7: 8"

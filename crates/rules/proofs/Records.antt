@@ -261,7 +261,7 @@ sized b c h = by-test (eqb b commitTag && (ltb 0 c && leb c heldMost))
     (λ u. let (p, q) = true-and (eqb b forgetTag) (eqb c 0) u in inr (eqb-true b forgetTag p, eqb-true c 0 q, rw (t, u)))
     (λ u. absurd (false≢true (rw (t, u) at h))))
 
-size-least : (b c : ℕ) → ltb 0 (sizeOf b c) ≡ true → 2 ≤ sizeOf b c
+pub size-least : (b c : ℕ) → ltb 0 (sizeOf b c) ≡ true → 2 ≤ sizeOf b c
 size-least b c h = by-either
     (λ (p : (b ≡ commitTag) × (0 < c) × (c ≤ heldMost) × (sizeOf b c ≡ commitSize c)). omega (arith, p .3))
     (λ (p : (b ≡ forgetTag) × (c ≡ 0) × (sizeOf b c ≡ forgetSize)). omega (arith, p .2))

@@ -3,21 +3,21 @@
 use Prim.Native.Nat.{ℕ, zero, suc, _+_, _-_, _≤_, _<_}
 use native.Mathlib.Omega.{arith}
 use mathlib.Core.Path.{_≡_, refl, sym, _∙_, ap}
-use mathlib.Core.Bool.{true, false, not, _&&_, _||_}
+use mathlib.Core.Bool.{true, false, not, _||_}
 use mathlib.Core.List.{List, [], _∷_, _++_, map, append-assoc}
-use lib.Dec.{eqb, ltb, leb}
+use lib.Dec.{ltb, leb}
 use lib.ListN.{length, take, drop, length-append, length-map, length-drop, take-append-drop}
 use lib.Seq.{length-take-le, take-nil, take-take, take-append-le, take-append-add}
 use borrow.Author.Tests.{ltb-true, ltb-false, leb-true, le-ltb, le-leb}
 use Rattle.lists.specs.Members.{Each}
-use Rattle.lists.proofs.Tests.{by-test, true-and, and-true, false-or}
-use Rattle.rules.specs.Sizes.{heldMost, headerSize, leastCapacity, largestCapacity}
+use Rattle.lists.proofs.Tests.{by-test, true-and, and-true, false-or, not-false}
+use Rattle.rules.specs.Sizes.{headerSize, leastCapacity, largestCapacity}
 use Rattle.rules.specs.RefusalNumber as refusal
 use Rattle.rules.specs.Identifiers.{sameBytes}
 use Rattle.rules.specs.Table.{freshOf}
-use Rattle.rules.specs.Log.{Record, header, recordBytes, allBytes, commitTag, forgetTag, sizeOf, isWhole, scan, behind, beginsNone}
+use Rattle.rules.specs.Log.{Record, header, recordBytes, allBytes, sizeOf, isWhole, scan, behind, beginsNone}
 use Rattle.rules.specs.Restart.{Open, entriesOpen, openAfter, allFitting, tableOf, reenlistment, reenlistments, refusedRestart, doneRestart, usedOf, isDamaged, isTooShort, readBack, isOutside, restartOf}
-use Rattle.rules.proofs.Records.{Valid, Torn, torn-begins, scan-all, behind-all, scan-length}
+use Rattle.rules.proofs.Records.{Valid, Torn, torn-begins, scan-all, behind-all, scan-length, size-least}
 
 -- ── the open ones and their entries ─────────────────────────────────────────────────────────────────────────────
 
@@ -33,12 +33,6 @@ reenlistments-long p (o ∷ os) =
     rw (length-append (map (reenlistment p) (o .entries)) (reenlistments (suc p) os), length-map (o .entries) (reenlistment p), reenlistments-long (suc p) os, length-append (o .entries) (entriesOpen os))
 
 -- ── the used bytes hold the same records ────────────────────────────────────────────────────────────────────────
-
-size-least : (b c : ℕ) → 0 < sizeOf b c → 2 ≤ sizeOf b c
-unfolding sizeOf
-size-least b c h = by-test (eqb b commitTag && (ltb 0 c && leb c heldMost))
-    (λ t. rw t (omega arith))
-    (λ t. by-test (eqb b forgetTag && eqb c 0) (λ u. rw (t, u) (omega arith)) (λ u. absurd (omega (arith, rw (t, u) at h))))
 
 behind-short : (k : ℕ) (bs : List ℕ) → length (behind k bs) ≤ length bs
 unfolding behind
@@ -79,7 +73,7 @@ kept zero (b ∷ c ∷ bs) h = by-test (isWhole b c bs) (λ t. whole t (kept (si
     whole : isWhole b c bs ≡ true → Kept n bs → Kept zero (b ∷ c ∷ bs)
     whole t i =
         let (p, q) = true-and (ltb 0 (sizeOf b c)) (leb (sizeOf b c) (2 + length bs)) t in
-        let least : 2 ≤ sizeOf b c = size-least b c (ltb-true 0 (sizeOf b c) p) in
+        let least : 2 ≤ sizeOf b c = size-least b c p in
         let long : n ≤ m = omega (arith, scan-length n bs (fits t)) in
         let e : suc (suc (length bs)) - length (behind n bs) ≡ suc (suc m) = omega (arith, behind-short n bs) in
         let w : isWhole b c (take m bs) ≡ true = and-true p (le-leb (sizeOf b c) (2 + length (take m bs)) (rw (length-take-le m bs (omega arith)) (omega arith))) in
@@ -118,7 +112,7 @@ not-outside : (log : List ℕ) (stored : ℕ) → Inside log stored → isOutsid
 not-outside log stored i =
     rw (le-ltb (length log) leastCapacity (i .least), le-ltb largestCapacity (length log) (i .most), le-ltb (length log) stored (i .below))
 
-abbrev bodyOf : List ℕ → ℕ → List ℕ
+abbrev pub bodyOf : List ℕ → ℕ → List ℕ
 bodyOf log stored = drop headerSize (take stored log)
 
 read-is : (log : List ℕ) (stored : ℕ) → isOutside log stored ≡ false → headerSize ≤ stored → sameBytes (take headerSize log) header ≡ true → restartOf log stored ≡ readBack (bodyOf log stored) log
@@ -127,7 +121,7 @@ read-is log stored o h s = rw (o, le-ltb stored headerSize h, s)
 
 -- the two ways to be accepted
 pub data Accepted (log : List ℕ) (stored : ℕ) : Type 0 where
-  fresh : Inside log stored → restartOf log stored ≡ doneRestart (freshOf (length log)) (header ++ drop headerSize log) → Accepted log stored
+  fresh : Inside log stored → stored < headerSize → restartOf log stored ≡ doneRestart (freshOf (length log)) (header ++ drop headerSize log) → Accepted log stored
   read : Inside log stored → headerSize ≤ stored → sameBytes (take headerSize log) header ≡ true → isDamaged (bodyOf log stored) ≡ false
       → isTooShort (bodyOf log stored) (length log) ≡ false
       → restartOf log stored ≡ doneRestart (tableOf (length log) (usedOf (bodyOf log stored)) (openAfter [] (scan 0 (bodyOf log stored)))) log → Accepted log stored
@@ -138,7 +132,7 @@ accepted log stored e = by-test (isOutside log stored)
     (λ o. absurd (omega (arith, rw o at e)))
     (λ o. by-test (ltb stored headerSize)
     (λ h. by-test (sameBytes (take stored log) (take stored header))
-    (λ s. fresh (inside log stored o) (rw (o, h, s)))
+    (λ s. fresh (inside log stored o) (ltb-true _ _ h) (rw (o, h, s)))
     (λ s. absurd (omega (arith, rw (o, h, s) at e))))
     (λ h. by-test (sameBytes (take headerSize log) header)
     (λ s. by-test (isDamaged (bodyOf log stored))
@@ -147,6 +141,10 @@ accepted log stored e = by-test (isOutside log stored)
     (λ t. absurd (omega (arith, rw (o, h, s, d, t) at e)))
     (λ t. read (inside log stored o) (ltb-false _ _ h) s d t (rw (o, h, s, d, t)))))
     (λ s. absurd (omega (arith, rw (o, h, s) at e)))))
+
+-- whose records fit
+pub undamaged : (body : List ℕ) → isDamaged body ≡ false → allFitting [] (scan 0 body) ≡ true
+undamaged body d = not-false (allFitting [] (scan 0 body)) (false-or (beginsNone (behind 0 body)) (not (allFitting [] (scan 0 body))) d .1)
 
 fresh-again : (log : List ℕ) → leastCapacity ≤ length log → length log ≤ largestCapacity
     → restartOf (header ++ drop headerSize log) headerSize ≡ doneRestart (freshOf (length log)) (header ++ drop headerSize log)
@@ -164,7 +162,7 @@ unfolding tableOf beginsNone
 again log stored e = go (accepted log stored e)
   where
     go : Accepted log stored → restartOf (restartOf log stored .log) (restartOf log stored .table .used) ≡ restartOf log stored
-    go (fresh i r) = rw r (fresh-again log (i .least) (i .most))
+    go (fresh i h r) = rw r (fresh-again log (i .least) (i .most))
     go (read i h s d t r) =
         let body : List ℕ = bodyOf log stored in
         let m : ℕ = usedIn 0 body in

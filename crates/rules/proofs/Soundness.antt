@@ -11,7 +11,7 @@ use borrow.Author.Tests.{eqb-true, eq-eqb}
 use Rattle.lists.specs.Lists.{all, filter, differ}
 use Rattle.lists.specs.Members.{Each, Some, Apart}
 use Rattle.lists.specs.Places.{eachPlace}
-use Rattle.lists.proofs.Tests.{by-test, by-either, no-clash, is-false, true-and, and-true, not-true, false-not, every-at, holding-every, that-is-all, _also_}
+use Rattle.lists.proofs.Tests.{by-test, by-either, true-and, and-true, not-true, false-not, every-at, holding-every, that-is-all, _also_}
 use Rattle.lists.proofs.Places.{place-or-nothing, each-at, at-each}
 use Rattle.lists.proofs.Says.{Says, says-always, says-equal, says-most, says-both, says-either, says-not, says-unless, says-as, says-cond, says-all, says-any, says-of, says-apart}
 use Rattle.rules.specs.declared.Transaction.{Transaction}
@@ -24,8 +24,8 @@ use Rattle.rules.specs.Marks as mark
 use Rattle.rules.specs.TransactionState as transaction
 use Rattle.rules.specs.EnlistmentState as enlistment
 use Rattle.rules.specs.Table.{noTransaction, noEnlistment, isLive, isFree, isHeld, isVacant, held, transactionAt, stateAt, isPhaseZero, isDurable, isMarked, isIn}
-use Rattle.rules.specs.Sound.{mayHold, mustHold, holdsWell, liveOnes, heldOnes, isKnown, isIdentifier, isNumber, sameIdentifier, sameNumber, sameManager, isZeroTransaction, isZeroEnlistment, openCount, soundOf, In, PhaseZero, Volatile, Durable, HoldsWell, Live, Held, Identifier, Number, Sound}
-use Rattle.rules.proofs.Identifiers.{same-equal, equal-same, zero-equal, equal-zero}
+use Rattle.rules.specs.Sound.{mayHold, mustHold, holdsWell, liveOnes, heldOnes, isKnown, isIdentifier, isNumber, sameIdentifier, sameNumber, sameManager, isZeroTransaction, isZeroEnlistment, openCount, soundOf, In, PhaseZero, Durable, HoldsWell, Live, Held, Identifier, Number, Sound, Known, SameIdentifier, SameNumber, SameManager, HoldersLive, FewHeld}
+use Rattle.rules.proofs.Identifiers.{same-equal, equal-same, nonzero-identifier, identifier-nonzero}
 
 -- ── the table of states ─────────────────────────────────────────────────────────────────────────────────────────
 
@@ -160,14 +160,14 @@ says-same-back a b = says-as sym sym (says-same b a)
 
 says-identifier : (t : Id) → Says (isIdentifier t) (Identifier t)
 says-identifier t = record {
-  out = λ e. let (l, n) = true-and _ _ e in (eqb-true (length t) identifierSize l, λ q. no-clash (isZero t) (equal-zero t q) (not-true (isZero t) n));
-  back = λ h. and-true (eq-eqb (length t) identifierSize (h .0)) (false-not (is-false (isZero t) (λ e. h .1 (zero-equal t (h .0) e))));
+  out = λ e. let (l, n) = true-and _ _ e in nonzero-identifier t (eqb-true (length t) identifierSize l) (not-true (isZero t) n);
+  back = λ h. and-true (eq-eqb (length t) identifierSize (h .0)) (false-not (identifier-nonzero t h));
 }
 
 says-number : (n : ℕ) → Says (isNumber n) (Number n)
 says-number n = says-both (says-not (says-equal n 0)) (says-most n largestNumber)
 
-says-known : (e : Enlistment) → Says (isKnown e) ((PhaseZero e ⊎ (Volatile e ⊎ Durable e)) × (e .mark ≤ mark.marked))
+says-known : (e : Enlistment) → Says (isKnown e) (Known e)
 says-known e = says-both (says-three (says-phase-zero e) (says-equal (e .kind) kind.volatile) (says-durable e)) (says-most (e .mark) mark.marked)
 
 says-zero-transaction : (x : Transaction) → Says (isZeroTransaction x) (x ≡ noTransaction)
@@ -189,7 +189,7 @@ module _ (tb : Table) where
   says-states : Says (eachPlace (λ p x. isFree x || holdsWell (x .state) (held p tb)) (tb .transactions)) ((p : ℕ) → Live (transactionAt p tb) → HoldsWell (stateAt p tb) (held p tb))
   says-states = says-places tb (λ p x. holdsWell (x .state) (held p tb)) (λ p. says-well (stateAt p tb) (held p tb))
 
-  says-kinds : Says (all isKnown (heldOnes tb)) (Each (λ e. Held e → (PhaseZero e ⊎ (Volatile e ⊎ Durable e)) × (e .mark ≤ mark.marked)) (tb .enlistments))
+  says-kinds : Says (all isKnown (heldOnes tb)) (Each (λ e. Held e → Known e) (tb .enlistments))
   says-kinds = says-of says-held (tb .enlistments) (says-all says-known (heldOnes tb))
 
   says-transaction-identifiers : Says (all (λ x. isIdentifier (x .id .0)) (liveOnes tb)) (Each (λ x. Live x → Identifier (x .id .0)) (tb .transactions))
@@ -201,19 +201,19 @@ module _ (tb : Table) where
   says-numbers : Says (all (λ e. isNumber (e .number)) (heldOnes tb)) (Each (λ e. Held e → Number (e .number)) (tb .enlistments))
   says-numbers = says-of says-held (tb .enlistments) (says-all (λ e. says-number (e .number)) (heldOnes tb))
 
-  says-transactions-differ : Says (differ sameIdentifier (liveOnes tb)) (Apart (λ x y. x .id .0 ≡ y .id .0) (liveOnes tb))
+  says-transactions-differ : Says (differ sameIdentifier (liveOnes tb)) (Apart SameIdentifier (liveOnes tb))
   says-transactions-differ = says-apart (λ x y. says-same-back (x .id .0) (y .id .0)) (liveOnes tb)
 
-  says-numbers-differ : Says (differ sameNumber (heldOnes tb)) (Apart (λ e f. e .number ≡ f .number) (heldOnes tb))
+  says-numbers-differ : Says (differ sameNumber (heldOnes tb)) (Apart SameNumber (heldOnes tb))
   says-numbers-differ = says-apart (λ e f. says-equal-back (e .number) (f .number)) (heldOnes tb)
 
-  says-holders-live : Says (all (λ e. isLive (transactionAt (e .holder) tb)) (heldOnes tb)) (Each (λ e. Held e → Live (transactionAt (e .holder) tb)) (tb .enlistments))
+  says-holders-live : Says (all (λ e. isLive (transactionAt (e .holder) tb)) (heldOnes tb)) (HoldersLive tb)
   says-holders-live = says-of says-held (tb .enlistments) (says-all (λ e. says-live (transactionAt (e .holder) tb)) (heldOnes tb))
 
-  says-managers-differ : Says (differ sameManager (filter isDurable (heldOnes tb))) (Apart (λ e f. (e .holder ≡ f .holder) × (e .rm .0 ≡ f .rm .0)) (filter isDurable (heldOnes tb)))
+  says-managers-differ : Says (differ sameManager (filter isDurable (heldOnes tb))) (Apart SameManager (filter isDurable (heldOnes tb)))
   says-managers-differ = says-apart (λ e f. says-both (says-equal-back (e .holder) (f .holder)) (says-same-back (e .rm .0) (f .rm .0))) (filter isDurable (heldOnes tb))
 
-  says-few : Says (eachPlace (λ p x. isFree x || leb (length (held p tb)) heldMost) (tb .transactions)) ((p : ℕ) → Live (transactionAt p tb) → length (held p tb) ≤ heldMost)
+  says-few : Says (eachPlace (λ p x. isFree x || leb (length (held p tb)) heldMost) (tb .transactions)) (FewHeld tb)
   says-few = says-places tb (λ p x. leb (length (held p tb)) heldMost) (λ p. says-most (length (held p tb)) heldMost)
 
   says-phase-zero-unmarked : Says (all (λ e. not (isMarked e)) (filter isPhaseZero (heldOnes tb))) (Each (λ e. Held e → PhaseZero e → e .mark ≡ mark.marked → ⊥) (tb .enlistments))

@@ -3,13 +3,13 @@ use Prim.Native.Nat.{ℕ}
 use native.Mathlib.Omega.{arith}
 use mathlib.Core.Path.{_≡_, refl, sym, _∙_, ap, subst}
 use mathlib.Core.Logic.{inl, inr}
-use mathlib.Core.Bool.{Bool, true, false, _&&_}
+use mathlib.Core.Bool.{true, false, _&&_}
 use mathlib.Core.List.{List, [], _∷_, map, List·Memᴰ·head, List·Memᴰ·tail, List·Memᴰ·cases-cons, List·Memᴰ·not-nil}
 use lib.Dec.{eqb}
 use borrow.Author.Tests.{eqb-true, eq-eqb, ne-eqb}
-use Rattle.lists.specs.Lists.{all, any, filter}
+use Rattle.lists.specs.Lists.{all, any}
 use Rattle.lists.specs.Members.{_∈_, Each, Some}
-use Rattle.lists.proofs.Tests.{by-test, by-either, is-false, true-and, and-true, and-false, all-each, each-head, each-rest, of-map}
+use Rattle.lists.proofs.Tests.{by-test, by-either, is-false, true-and, and-true, and-false, all-each, each-head, each-rest, filter-map, map-same, any-map, each-map}
 use Rattle.lists.proofs.Places.{IsPlace, of-places, in-places}
 use Rattle.lists.proofs.Sorting.{in-sort, of-sort}
 use Rattle.rules.specs.declared.Enlistment.{Enlistment}
@@ -20,17 +20,17 @@ use Rattle.rules.specs.Identifiers.{Id}
 use Rattle.rules.specs.Table.{noTransaction, durableKind, isDurable, isDurableOf, isIn, isDone, heldBy, held, transactionAt, stateAt, changeHeld, withEnlistments}
 use Rattle.rules.specs.Sound.{isOpen, openPlaces, In, PhaseZero, HoldsWell, Live, Sound}
 use Rattle.rules.specs.Events.{endOf, isUndone, isOver, toldAgain, askOf, doneFor, byIdentifier, finished, endEach, reenlistedOf}
-use Rattle.rules.proofs.Frames.{of-held, in-held}
+use Rattle.rules.proofs.Frames.{of-held}
 use Rattle.rules.proofs.Along.{as-many}
-use Rattle.rules.proofs.Kept.{Kept, sound-kept, Keeping, stays, moves, kept-map, live-place, live-some}
-use Rattle.rules.proofs.Only.{only-same, Keeps, only-held, kept-held, filter-map-same, at-changed, each-changed, some-changed, room-held, Room}
-use Rattle.rules.proofs.Parts.{Part, end-at, end-over, some-undone}
+use Rattle.rules.proofs.Kept.{Kept, sound-kept, Keeping, stays, moves, kept-map, live-place, live-some, SameKey, key-same, key-either}
+use Rattle.rules.proofs.Only.{Keeps, only-held, kept-held, at-changed, each-changed, some-changed, room-held, Room}
+use Rattle.rules.proofs.Parts.{Part, end-at, end-over, some-undone, part-same, places-kept}
 use Rattle.rules.proofs.Phases.{Committed}
 use Rattle.rules.proofs.Reacting.{zeroing-range, voting-range, aborted-range}
 
 -- ── Ask ─────────────────────────────────────────────────────────────────────────────────────────────────────────
 
-in-committing : {s : ℕ} {hs : List Enlistment} → HoldsWell s hs → s ≡ transaction.committing → Each (λ e. PhaseZero e → ⊥) hs × Each Committed hs × Some (λ e. In enlistment.done e → ⊥) hs
+pub in-committing : {s : ℕ} {hs : List Enlistment} → HoldsWell s hs → s ≡ transaction.committing → Each (λ e. PhaseZero e → ⊥) hs × Each Committed hs × Some (λ e. In enlistment.done e → ⊥) hs
 in-committing (HoldsWell.active q h) z = absurd (omega arith)
 in-committing (HoldsWell.phase-zero q h x) z = absurd (omega arith)
 in-committing (HoldsWell.phase-one q n h x) z = absurd (omega arith)
@@ -42,8 +42,8 @@ module _ (r : Id) where
   told-keeps : Keeps (toldAgain r)
   told-keeps e h = by-test (isUndone r e && isIn enlistment.failedToNotify e) (λ t. rw t (moves h _ refl)) (λ t. rw t (stays refl))
 
-  told-key : (e : Enlistment) → (toldAgain r e .kind ≡ e .kind) × (toldAgain r e .holder ≡ e .holder)
-  told-key e = by-test (isUndone r e && isIn enlistment.failedToNotify e) (λ t. rw t (refl, refl)) (λ t. rw t (refl, refl))
+  pub told-key : (e : Enlistment) → SameKey e (toldAgain r e)
+  told-key e = key-either (isUndone r e && isIn enlistment.failedToNotify e) enlistment.toldCommit (key-same e)
 
   told-again : (e : Enlistment) → Committed e → Committed (toldAgain r e)
   told-again e c = by-test (isUndone r e && isIn enlistment.failedToNotify e) (λ t. rw t (inl refl)) (λ t. rw t c)
@@ -54,14 +54,11 @@ module _ (r : Id) where
   pub ask-part : (p : ℕ) (tb : Table) (log : List ℕ) → Sound tb → Part p tb (askOf p r tb log .table)
   unfolding askOf
   ask-part p tb log s = by-test (isOver (stateAt p tb))
-      (λ t. rw t same)
+      (λ t. rw t (part-same p s))
       (λ t. rw t (by-test (eqb (stateAt p tb) transaction.committing)
       (λ c. rw c (told (eqb-true (stateAt p tb) transaction.committing c)))
-      (λ c. rw c same)))
+      (λ c. rw c (part-same p s))))
     where
-      same : Part p tb tb
-      same = record { only = only-same p tb; kept = sound-kept s; well = s .states p; room = λ q. q }
-
       told : stateAt p tb ≡ transaction.committing → Part p tb (changeHeld p (toldAgain r) tb)
       told c =
           let l : Live (transactionAt p tb) = λ z. omega arith in
@@ -71,9 +68,9 @@ module _ (r : Id) where
             only = only-held p (toldAgain r) tb n told-keeps;
             kept = kept-held p (toldAgain r) tb n told-keeps (sound-kept s);
             well = λ m. HoldsWell.committing (ap (λ y. y .state) (at-changed p p (toldAgain r) tb) ∙ c)
-                (each-changed p (toldAgain r) tb (λ e. PhaseZero e → ⊥) (λ e m q k. no-p e m (sym (told-key e .0) ∙ k)))
+                (each-changed p (toldAgain r) tb (λ e. PhaseZero e → ⊥) (λ e m q k. no-p e m (sym (told-key e .kind) ∙ k)))
                 (each-changed p (toldAgain r) tb Committed (λ e m q. told-again e (h e m)))
-                (some-changed p (toldAgain r) tb (record { it = x .it; there = x .there; holds = (told-key (x .it) .1 ∙ of-held p tb (x .there) .1, told-undone (x .it) (x .holds)) }));
+                (some-changed p (toldAgain r) tb (record { it = x .it; there = x .there; holds = (told-key (x .it) .holder ∙ of-held p tb (x .there) .1, told-undone (x .it) (x .holds)) }));
             room = room-held p (toldAgain r) tb l told-keeps;
           }
 
@@ -93,8 +90,7 @@ unfolding endEach
 end-each [] tb log k r h = record { kept = k; room = r; same-capacity = refl; transactions = λ q n. refl; enlistments = λ q n z. refl; over = λ q l m. List·Memᴰ·not-nil m }
 end-each (p ∷ ps) tb log k r h =
     let one : Part p tb (endOf p tb log .table) = end-at p tb log k (each-head h) in
-    let rest = end-each ps (endOf p tb log .table) (endOf p tb log .log) (one .kept) (one .room r)
-    (λ q m. record { low = each-rest h q m .low; high = omega (arith, one .only .as-many, each-rest h q m .high) }) in
+    let rest = end-each ps (endOf p tb log .table) (endOf p tb log .log) (one .kept) (one .room r) (places-kept (one .only) (each-rest h)) in
     record {
       kept = rest .kept;
       room = rest .room;
@@ -109,18 +105,12 @@ end-each (p ∷ ps) tb log k r h =
 
 -- ── Re-enlisted ─────────────────────────────────────────────────────────────────────────────────────────────────
 
--- a change that neither test sees
-any-filter-map : {A : Type 0} (f t : A → Bool) (g : A → A) → ((x : A) → t (g x) ≡ t x) → ((x : A) → f (g x) ≡ f x) → (xs : List A) → any f (filter t (map g xs)) ≡ any f (filter t xs)
-unfolding any filter
-any-filter-map f t g k h [] = refl
-any-filter-map f t g k h (x ∷ xs) = by-test (t x) (λ e. rw (k x, e, h x, any-filter-map f t g k h xs)) (λ e. rw (k x, e) (any-filter-map f t g k h xs))
+pub done-key : (r : Id) (e : Enlistment) → SameKey e (doneFor r e)
+done-key r e = key-either (isDurableOf r e && isIn enlistment.failedToNotify e) enlistment.done (key-same e)
 
 module _ (r : Id) (tb : Table) where
-  abbrev after : Table
+  abbrev pub after : Table
   after = withEnlistments (map (doneFor r) (tb .enlistments)) tb
-
-  done-key : (e : Enlistment) → (doneFor r e .kind ≡ e .kind) × (doneFor r e .holder ≡ e .holder)
-  done-key e = by-test (isDurableOf r e && isIn enlistment.failedToNotify e) (λ t. rw t (refl, refl)) (λ t. rw t (refl, refl))
 
   done-keeps : Kept tb → Each (λ e. Keeping e (doneFor r e)) (tb .enlistments)
   done-keeps k e m = by-test (isDurableOf r e && isIn enlistment.failedToNotify e)
@@ -136,17 +126,17 @@ module _ (r : Id) (tb : Table) where
   not-failed : (e : Enlistment) → (In enlistment.failedToNotify e → ⊥) → doneFor r e ≡ e
   not-failed e n = rw (and-false (isDurableOf r e) (isIn enlistment.failedToNotify e) (inr (ne-eqb (e .state) enlistment.failedToNotify n)))
 
+  -- its places stay the same, so that each transaction holds what becomes of what it held
+  pub held-done : (q : ℕ) → held q after ≡ map (doneFor r) (held q tb)
+  unfolding held
+  held-done q = filter-map (doneFor r) (heldBy q) (λ e. ap (λ z. eqb z q) (done-key r e .holder)) (tb .enlistments)
+
   each-done : (q : ℕ) (P : Enlistment → Type 0) → Each (λ e. P (doneFor r e)) (held q tb) → Each P (held q after)
-  each-done q P h x m =
-      let (i, b) = of-held q after m in
-      let o = of-map (doneFor r) (tb .enlistments) i in
-      subst P (o .holds) (h (o .it) (in-held q tb (o .there) (sym (done-key (o .it) .1) ∙ ap (λ y. y .holder) (o .holds) ∙ b)))
+  each-done q P h = rw (held-done q) (each-map (doneFor r) P (held q tb) h)
 
   -- where none becomes Done
   untouched : (q : ℕ) → Each (λ e. doneFor r e ≡ e) (held q tb) → held q after ≡ held q tb
-  unfolding held
-  untouched q h = filter-map-same (heldBy q) (doneFor r) (tb .enlistments)
-      (λ e m. (ap (λ z. eqb z q) (done-key e .1), λ t. h e (in-held q tb m (eqb-true (e .holder) q t))))
+  untouched q h = held-done q ∙ map-same (doneFor r) (held q tb) h
 
   not-finished : (q : ℕ) → Live (transactionAt q tb) → (q ∈ finished after → ⊥) → stateAt q tb ≡ transaction.committing → all isDone (held q after) ≡ false
   unfolding finished
@@ -159,28 +149,29 @@ module _ (r : Id) (tb : Table) where
   well-done q l n (HoldsWell.phase-one c k h x) = subst (HoldsWell (stateAt q tb)) (sym (untouched q (λ e m. not-failed e (λ z. omega (arith, z, voting-range e (h e m)))))) (HoldsWell.phase-one c k h x)
   well-done q l n (HoldsWell.single-phase c k h) = subst (HoldsWell (stateAt q tb)) (sym (untouched q (λ e m. not-failed e (λ z. omega (arith, z, h e m .2))))) (HoldsWell.single-phase c k h)
   well-done q l n (HoldsWell.committing c k h x) = HoldsWell.committing c
-      (each-done q (λ e. PhaseZero e → ⊥) (λ e m z. k e m (sym (done-key e .0) ∙ z)))
+      (each-done q (λ e. PhaseZero e → ⊥) (λ e m z. k e m (sym (done-key r e .kind) ∙ z)))
       (each-done q Committed (λ e m. done-committed e (h e m)))
       (some-undone (held q after) (not-finished q l n c))
   well-done q l n (HoldsWell.aborting c h x) = subst (HoldsWell (stateAt q tb)) (sym (untouched q (λ e m. not-failed e (λ z. omega (arith, z, aborted-range e (h e m)))))) (HoldsWell.aborting c h x)
 
-  open-same : (q s : ℕ) → isOpen s (held q tb) ≡ isOpen s (held q after)
-  unfolding held
-  open-same q s = ap (λ b. eqb s transaction.committing && b) (sym (any-filter-map isDurable (heldBy q) (doneFor r)
-      (λ e. ap (λ z. eqb z q) (done-key e .1)) (λ e. ap durableKind (done-key e .0)) (tb .enlistments)))
+  pub open-done : (q s : ℕ) → isOpen s (held q after) ≡ isOpen s (held q tb)
+  open-done q s = ap (isOpen s) (held-done q) ∙ ap (λ b. eqb s transaction.committing && b) (any-map (doneFor r) isDurable (held q tb) ∙ λ i. any (λ e. durableKind (done-key r e .kind i)) (held q tb))
 
-  room-done : Room tb → Room after
+  pub room-done : Room tb → Room after
   unfolding openPlaces
-  room-done h = omega (arith, h, as-many (λ q x. isOpen (x .state) (held q tb)) (λ q x. isOpen (x .state) (held q after)) noTransaction (tb .transactions) (tb .transactions) refl (λ q. open-same q (stateAt q tb)))
+  room-done h = omega (arith, h, as-many (λ q x. isOpen (x .state) (held q tb)) (λ q x. isOpen (x .state) (held q after)) noTransaction (tb .transactions) (tb .transactions) refl (λ q. sym (open-done q (stateAt q tb))))
 
-  finished-places : Each (λ p. IsPlace (tb .transactions) p) (finished after)
+  pub finished-places : Each (λ p. IsPlace (tb .transactions) p) (finished after)
   unfolding finished
   finished-places p m = of-places (λ p x. eqb (x .state) transaction.committing && all isDone (held p after)) noTransaction (tb .transactions) (of-sort (byIdentifier after) _ m) .0
+
+  pub kept-done : Sound tb → Kept after
+  kept-done s = kept-map (doneFor r) (sound-kept s) (done-keeps (sound-kept s))
 
   -- what Re-enlisted gives
   ends : (log : List ℕ) → Sound tb → Ends (finished after) after (reenlistedOf r tb log .table)
   unfolding reenlistedOf
-  ends log s = end-each (finished after) after log (kept-map (doneFor r) (sound-kept s) (done-keeps (sound-kept s))) (room-done (s .room)) finished-places
+  ends log s = end-each (finished after) after log (kept-done s) (room-done (s .room)) finished-places
 
   pub reenlisted-well : (log : List ℕ) → Sound tb → (q : ℕ) → Live (transactionAt q (reenlistedOf r tb log .table))
       → HoldsWell (stateAt q (reenlistedOf r tb log .table)) (held q (reenlistedOf r tb log .table))

@@ -29,3 +29,5 @@ pub mod Messages
 pub mod Listing
 -- The trace program
 pub mod Trace
+-- Samples
+pub mod Words

@@ -174,17 +174,35 @@ Identifier t = (length t ≡ identifierSize) × (t ≡ zeroId → ⊥)
 abbrev pub Number : ℕ → Type 0
 Number n = (n ≡ 0 → ⊥) × (n ≤ largestNumber)
 
+abbrev pub Known : Enlistment → Type 0
+Known e = (PhaseZero e ⊎ (Volatile e ⊎ Durable e)) × (e .mark ≤ mark.marked)
+
+abbrev pub SameIdentifier : Transaction → Transaction → Type 0
+SameIdentifier x y = x .id .0 ≡ y .id .0
+
+abbrev pub SameNumber : Enlistment → Enlistment → Type 0
+SameNumber e f = e .number ≡ f .number
+
+abbrev pub SameManager : Enlistment → Enlistment → Type 0
+SameManager e f = (e .holder ≡ f .holder) × (e .rm .0 ≡ f .rm .0)
+
+abbrev pub HoldersLive : Table → Type 0
+HoldersLive tb = Each (λ e. Held e → Live (transactionAt (e .holder) tb)) (tb .enlistments)
+
+abbrev pub FewHeld : Table → Type 0
+FewHeld tb = (p : ℕ) → Live (transactionAt p tb) → length (held p tb) ≤ heldMost
+
 pub record Sound (tb : Table) : Type 0 where
   pub states : (p : ℕ) → Live (transactionAt p tb) → HoldsWell (stateAt p tb) (held p tb)
-  pub kinds : Each (λ e. Held e → (PhaseZero e ⊎ (Volatile e ⊎ Durable e)) × (e .mark ≤ mark.marked)) (tb .enlistments)
+  pub kinds : Each (λ e. Held e → Known e) (tb .enlistments)
   pub transaction-identifiers : Each (λ x. Live x → Identifier (x .id .0)) (tb .transactions)
   pub manager-identifiers : Each (λ e. Held e → Identifier (e .rm .0)) (tb .enlistments)
   pub numbers : Each (λ e. Held e → Number (e .number)) (tb .enlistments)
-  pub transactions-differ : Apart (λ x y. x .id .0 ≡ y .id .0) (liveOnes tb)
-  pub numbers-differ : Apart (λ e f. e .number ≡ f .number) (heldOnes tb)
-  pub holders-live : Each (λ e. Held e → Live (transactionAt (e .holder) tb)) (tb .enlistments)
-  pub managers-differ : Apart (λ e f. (e .holder ≡ f .holder) × (e .rm .0 ≡ f .rm .0)) (filter isDurable (heldOnes tb))
-  pub few : (p : ℕ) → Live (transactionAt p tb) → length (held p tb) ≤ heldMost
+  pub transactions-differ : Apart SameIdentifier (liveOnes tb)
+  pub numbers-differ : Apart SameNumber (heldOnes tb)
+  pub holders-live : HoldersLive tb
+  pub managers-differ : Apart SameManager (filter isDurable (heldOnes tb))
+  pub few : FewHeld tb
   pub phase-zero-unmarked : Each (λ e. Held e → PhaseZero e → e .mark ≡ mark.unmarked) (tb .enlistments)
   pub empty-transactions : Each (λ x. x .state ≡ 0 → x ≡ noTransaction) (tb .transactions)
   pub empty-enlistments : Each (λ e. e .holder ≡ 0 → e ≡ noEnlistment) (tb .enlistments)

@@ -9,6 +9,7 @@ use Rattle.lists.specs.Members.{_∈_, Each, Some}
 use Rattle.rules.specs.declared.Enlistment.{Enlistment}
 use Rattle.rules.specs.declared.Name.{Name}
 use Rattle.rules.specs.declared.Name.the-variants as name
+use Rattle.rules.specs.Kinds as kind
 use Rattle.rules.specs.EnlistmentState as enlistment
 use Rattle.rules.specs.Identifiers.{Id}
 use Rattle.rules.specs.Sound.{In, Durable}
@@ -17,6 +18,11 @@ use Rattle.safety.specs.World.{Note, Message, Issued}
 use Rattle.safety.specs.Host.{MayAsk}
 use Rattle.rules.specs.Signals.{Committed, Aborted}
 use Rattle.safety.specs.Demand3.{About, Votes, VotedYes, AllVotedYes, OnlyOne, OnlyOneCommitted}
+use Rattle.lists.proofs.Tests.{some-any, any-some, none-each, by-either}
+use Rattle.lists.specs.Lists.{any}
+use borrow.Author.Tests.{eq-eqb, eqb-true, eqb-false}
+use Rattle.rules.specs.Table.{isDurable}
+use mathlib.Core.Bool.{true, false}
 
 -- ── the story of the transaction in a log ───────────────────────────────────────────────────────────────────────
 
@@ -168,6 +174,19 @@ Preparing n r k e = Is n r k e × In enlistment.preparing e
 abbrev pub NoDurable : List Enlistment → Type 0
 NoDurable es = Each (λ e. Durable e → ⊥) es
 
+pub durable-any : (es : List Enlistment) → Some Durable es → any isDurable es ≡ true
+durable-any es s = some-any isDurable es (record { it = s .it; there = s .there; holds = eq-eqb (s .it .kind) kind.durable (s .holds) })
+
+pub any-durable : (es : List Enlistment) → any isDurable es ≡ true → Some Durable es
+any-durable es e = let s : Some (λ x. isDurable x ≡ true) es = any-some isDurable es e in record { it = s .it; there = s .there; holds = eqb-true (s .it .kind) kind.durable (s .holds) }
+
+pub none-durable : (es : List Enlistment) → any isDurable es ≡ false → NoDurable es
+none-durable es n e m = eqb-false (e .kind) kind.durable (none-each isDurable es n e m)
+
+-- who waits is not Done
+pub waits-undone : {r : Id} (e : Enlistment) → Waits r e → In enlistment.done e → ⊥
+waits-undone e w d = by-either (λ q. omega (arith, q, d)) (λ q. omega (arith, q, d)) (w .2)
+
 -- the resource managers that a record names
 abbrev pub managersOf : List Entry → List Id
 managersOf rs = map (λ d. d .rm) rs
@@ -175,6 +194,10 @@ managersOf rs = map (λ d. d .rm) rs
 -- the numbers of a record's entries are held
 abbrev pub Entered : List Entry → List Enlistment → Type 0
 Entered rs es = Each (λ d. Some (λ e. e .number ≡ d .number) es) rs
+
+-- a transaction in Committing has its record in the log, unless it holds none that is durable
+abbrev pub RecordOrNone : Story → List Enlistment → Type 0
+RecordOrNone l es = ((rs : List Entry) × (l ≡ open-with rs) × Some Durable es × Entered rs es) ⊎ ((l ≡ none) × NoDurable es)
 
 -- ── one transaction ─────────────────────────────────────────────────────────────────────────────────────────────
 
@@ -254,7 +277,7 @@ module _ (t : Id) where
     pub good : Good h issued
     pub wait : (r : Id) → MayAsk t r h → Some (Waits r) es
     -- with a durable place it is open, and without one nobody asks
-    pub record-or-none : ((rs : List Entry) × (log ≡ open-with rs) × Some Durable es × Entered rs es) ⊎ ((log ≡ none) × NoDurable es)
+    pub record-or-none : RecordOrNone log es
 
   pub record ShapeAborting (log : Story) (h : List Note) (waiting sent : List Issued) : Type 0 where
     pub log-none : log ≡ none

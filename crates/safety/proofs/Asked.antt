@@ -1,13 +1,13 @@
 -- Right after an accepted restart an ask that is permitted is accepted: the table is sound, and it remembers the decision.
 use Prim.Native.Nat.{ℕ}
 use native.Mathlib.Omega.{arith}
-use mathlib.Core.Path.{_≡_, refl, sym, _∙_, ap}
+use mathlib.Core.Path.{_≡_, refl, _∙_, ap}
 use mathlib.Core.Bool.{true, false}
 use mathlib.Core.List.{List, _++_}
 use lib.ListN.{length}
 use borrow.Author.Tests.{eq-eqb, ne-eqb}
 use Rattle.lists.specs.Lists.{any}
-use Rattle.lists.proofs.Tests.{by-either, is-false, and-true, false-not, some-any}
+use Rattle.lists.proofs.Tests.{and-true, false-not, some-any}
 use Rattle.rules.specs.declared.Table.{Table}
 use Rattle.rules.specs.declared.Event.{Event}
 use Rattle.rules.specs.declared.Act.the-variants as act
@@ -16,12 +16,12 @@ use Rattle.rules.specs.RefusalNumber as refusal
 use Rattle.rules.specs.EnlistmentState as enlistment
 use Rattle.rules.specs.Identifiers.{isZero}
 use Rattle.rules.specs.Table.{placeNamed, stateAt, held}
-use Rattle.rules.specs.Sound.{Sound, Identifier}
+use Rattle.rules.specs.Sound.{Sound}
 use Rattle.rules.specs.Events.{isUndone}
 use Rattle.rules.specs.Refusals.{firstOf, refusalOf}
 use Rattle.rules.specs.Step.{stepOf}
 use Rattle.rules.specs.Restart.{restartOf}
-use Rattle.rules.proofs.Identifiers.{equal-same, zero-equal}
+use Rattle.rules.proofs.Identifiers.{equal-same, identifier-nonzero}
 use Rattle.rules.proofs.Soundness.{sentences-sound}
 use Rattle.rules.proofs.Checks.{refusal-checks}
 use Rattle.rules.proofs.Refused.{step-refusal}
@@ -34,6 +34,8 @@ use Rattle.safety.proofs.Given.{stands-sound}
 use Rattle.safety.proofs.Fitting.{live-nonzero}
 use Rattle.safety.proofs.Memory.{remembered}
 use Rattle.safety.proofs.Bricks.{RestartsWell, restarts-well}
+use Rattle.rules.proofs.Put.{member-held}
+use Rattle.safety.proofs.Alone.{waits-undone}
 
 module _ (tb : Table) (s : Sound tb) (e : Event) (is-ask : e .act ≡ act.Ask) (m : Remembers (e .tx .0) (e .rm .0) tb) where
   abbrev p : ℕ
@@ -47,10 +49,7 @@ module _ (tb : Table) (s : Sound tb) (e : Event) (is-ask : e .act ≡ act.Ask) (
   transaction-nonzero = live-nonzero tb s (e .tx .0) p (stands-sound tb s (e .tx .0) p (named-found (e .tx .0) tb somewhere))
 
   manager-nonzero : isZero (e .rm .0) ≡ false
-  manager-nonzero = is-false (isZero (e .rm .0)) (λ z. i .1 (zero-equal (e .rm .0) (i .0) z))
-    where
-      i : Identifier (e .rm .0)
-      i = rw (m .waits .holds .1) at (s .manager-identifiers (m .waits .it) (of-held p tb (m .waits .there) .0) (λ z. somewhere (sym (of-held p tb (m .waits .there) .1) ∙ z)))
+  manager-nonzero = identifier-nonzero (e .rm .0) (rw (m .waits .holds .1) at (s .manager-identifiers (m .waits .it) (of-held p tb (m .waits .there) .0) (member-held p tb somewhere (m .waits .there))))
 
   -- its durable enlistment is not Done
   has-durable : any (isUndone (e .rm .0)) (held p tb) ≡ true
@@ -58,7 +57,7 @@ module _ (tb : Table) (s : Sound tb) (e : Event) (is-ask : e .act ≡ act.Ask) (
     it = m .waits .it;
     there = m .waits .there;
     holds = and-true (and-true (eq-eqb (m .waits .it .kind) kind.durable (m .waits .holds .0)) (equal-same (m .waits .it .rm .0) (e .rm .0) (m .waits .holds .1)))
-        (false-not (ne-eqb (m .waits .it .state) enlistment.done (λ d. by-either (λ q. omega (arith, q, d)) (λ q. omega (arith, q, d)) (m .waits .holds .2))));
+        (false-not (ne-eqb (m .waits .it .state) enlistment.done (waits-undone (m .waits .it) (m .waits .holds))));
   })
 
   pub ask-not-refused : (n : ℕ) → n ≡ tb .capacity → refusalOf tb e n ≡ refusal.accepted

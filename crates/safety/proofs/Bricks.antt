@@ -5,14 +5,14 @@ use native.Mathlib.Omega.{arith}
 use mathlib.Core.Path.{_≡_, refl, sym, _∙_, ap, subst}
 use mathlib.Core.Logic.{_⊎_, inl, inr}
 use mathlib.Core.Bool.{true, false, not, _||_}
-use mathlib.Core.List.{List, [], _∷_, _++_, map, append-assoc, Memᴰ·append-right}
+use mathlib.Core.List.{List, [], _∷_, _++_, map, append-assoc}
 use lib.ListN.{length, take, drop, replicate, length-append, length-map, length-drop, length-replicate}
 use lib.Seq.{length-take-le, take-append-le, take-append-seam}
 use lib.Dec.{eqb, ltb}
 use borrow.Author.Tests.{le-ltb, ltb-true, ltb-false, eq-eqb}
 use Rattle.lists.specs.Lists.{filter}
 use Rattle.lists.specs.Members.{Each, Apart}
-use Rattle.lists.proofs.Tests.{by-test, by-either, no-clash, is-false, and-true, true-and, or-false, false-or, not-false, false-not, each-nothing, each-head, each-rest, filter-all}
+use Rattle.lists.proofs.Tests.{by-cases, by-test, by-either, no-clash, is-false, and-true, true-and, or-false, false-or, not-false, false-not, each-nothing, each-head, each-rest, filter-all, each-both, each-back}
 use Rattle.lists.proofs.Apart.{apart-head, apart-rest}
 use Rattle.rules.specs.declared.Table.{Table}
 use Rattle.rules.specs.declared.Event.{Event}
@@ -34,12 +34,11 @@ use Rattle.safety.specs.Run.{Run, start, step, store, trim, leave, resta
 use Rattle.safety.specs.Beyond.{NeverBricked}
 use Rattle.safety.proofs.Alone.{none}
 use Rattle.safety.proofs.Top.{Alive, Always, always, agrees}
-use Rattle.safety.proofs.Story.{storyOf, Formed, story-formed, mine, tells, valid-both}
+use Rattle.safety.proofs.Story.{storyOf, Formed, story-formed, nothing-mine, tells}
 use Rattle.safety.proofs.View.{viewOf}
 use Rattle.safety.proofs.Open.{Fit, fit-nothing, fit-record, fit-all, open-both, fitting-both}
 use Rattle.safety.proofs.Fitting.{Ready}
 use Rattle.safety.proofs.Reopened.{reopened-sound}
-use Rattle.safety.proofs.Own.{by-cases}
 use Rattle.safety.proofs.Steps.{Written, step-writes, step-refuses, step-needs-sound, zero-unsound}
 use Rattle.safety.proofs.Lengths.{Same, step-same}
 use Rattle.safety.proofs.Restarts as restarts
@@ -87,10 +86,6 @@ Kept tb log = (tb .used ≡ 0) ⊎ Readable tb log
 
 -- ── a step ──────────────────────────────────────────────────────────────────────────────────────────────────────
 
-nothing-mine : (t : Id) → mine t [] ≡ []
-unfolding mine filter
-nothing-mine t = refl
-
 ready : (w : World) → Alive refines w → (g : Readable (w .table) (w .log)) → soundOf (w .table) ≡ true → Ready (w .table) (w .log) (openAfter [] (g .formed .records))
 unfolding refines
 ready w a g s = record {
@@ -110,7 +105,7 @@ readable-more : (tb : Table) (log : List ℕ) (e : Event) (g : Readable tb log) 
 readable-more tb log e g w r = record {
   formed = record {
     records = g .formed .records ++ w .records;
-    valid = valid-both (g .formed .records) (w .records) (g .formed .valid) (w .valid);
+    valid = each-both (g .formed .records) (w .records) (g .formed .valid) (w .valid);
     bytes = w .bytes ∙ ap (λ l. l ++ allBytes (w .records)) (g .formed .bytes) ∙ append-assoc header (allBytes (g .formed .records)) (allBytes (w .records)) ∙ ap (λ l. header ++ l) (sym (all-append (g .formed .records) (w .records)));
   };
   fitting = fitting-both [] (g .formed .records) (w .records) ∙ and-true (g .fitting) (j .0);
@@ -310,7 +305,7 @@ module _ (w : World) (g : Readable (w .table) (w .log)) (rest : List ℕ) (p : w
     both-fit = true-and (allFitting [] kept-ones) (allFitting (openAfter [] kept-ones) lost-ones) (sym (fitting-both [] kept-ones lost-ones) ∙ ap (allFitting []) (sym split) ∙ g .fitting)
 
     lost-valid : Each Valid lost-ones
-    lost-valid x m = subst (Each Valid) split (g .formed .valid) x (Memᴰ·append-right kept-ones m)
+    lost-valid = each-back kept-ones lost-ones (subst (Each Valid) split (g .formed .valid))
 
     room : length (header ++ allBytes kept-ones) + recordSize * length (openAfter [] kept-ones) ≤ length (w .disk ++ spare)
     room = omega (

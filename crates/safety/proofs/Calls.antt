@@ -11,7 +11,7 @@ use borrow.Author.Tests.{eqb-true, eqb-false, ne-eqb}
 use Rattle.lists.specs.Members.{_∈_, Each, Some}
 use Rattle.lists.specs.Lists.{any, filter, firstOr}
 use Rattle.lists.specs.Places.{placeOf, putLowest}
-use Rattle.lists.proofs.Tests.{by-test, by-either, no-clash, is-false, true-or, none-each, first-passes, first-none}
+use Rattle.lists.proofs.Tests.{by-cases, by-test, by-either, no-clash, is-false, true-or, none-each, first-passes, first-none, by-cond}
 use Rattle.lists.proofs.Places.{IsFirst, place-first, put-is, put-there, put-keeps, of-put, filter-put}
 use Rattle.rules.specs.declared.Transaction.{Transaction}
 use Rattle.rules.specs.declared.Enlistment.{Enlistment}
@@ -45,8 +45,11 @@ use Rattle.safety.proofs.Top.{Agrees}
 use Rattle.safety.proofs.View.{viewOf, look, view-in, view-stands, view-absent, view-same, view-goes, goes-other, view-changes, view-held-other, state-none}
 use Rattle.safety.proofs.Given.{stands-sound, owner-held}
 use Rattle.safety.proofs.Messages.{notCommitted, notAborted, Only, only-nothing, only-one, only-each, Addressed, Owned, addressed-nothing, addressed-one, addressed-neutral, none-committed, none-aborted, quiet}
-use Rattle.safety.proofs.Own.{by-cases, Own, unwritten, unlogged, used-goes, own-abort, own-start}
+use Rattle.safety.proofs.Own.{Own, unwritten, unlogged, used-goes, own-abort, own-start}
 use Rattle.safety.proofs.Reactions.{held-votes, untouched}
+use Rattle.rules.proofs.Told.{told-key}
+use Rattle.rules.proofs.Phases.{zeroed-key}
+use Rattle.rules.proofs.Kept.{SameKey}
 
 -- a change of the transaction at p is none of one that stands elsewhere
 view-transaction-other : (u : Id) (p : ℕ) (f : Transaction → Transaction) (tb : Table) → isNamed u (transactionAt p tb) ≡ false → isNamed u (f (transactionAt p tb)) ≡ false → viewOf u (changeTransaction p f tb) ≡ viewOf u tb
@@ -68,9 +71,6 @@ module _ (tb : Table) (log : List ℕ) (s : Sound tb) (x : TxId) (y : RmId) wher
 
   abbrev pub event : Act → Event
   event a = record { tx = x; rm = y; act = a }
-
-  view-here : (k : ℕ) → stateAt p tb ≡ k → viewOf t tb ≡ look k hs
-  view-here = view-in t p tb refl
 
   -- ── Begin ─────────────────────────────────────────────────────────────────────────────────────────────────────
 
@@ -140,27 +140,27 @@ module _ (tb : Table) (log : List ℕ) (s : Sound tb) (x : TxId) (y : RmId) wher
     at-p = stands-sound tb s t p (named-found t tb live)
 
     zeroed-kept : (P : Enlistment → Type 0) → ((e : Enlistment) → P e → P (inState enlistment.zero e)) → (e : Enlistment) → P e → P (zeroedOf e) × (zeroedOf e .holder ≡ e .holder)
-    zeroed-kept P f e q = by-cases (λ (w : Enlistment). P w × (w .holder ≡ e .holder)) (isPhaseZero e) (inState enlistment.zero e) e (λ _. (f e q, refl)) (λ _. (q, refl))
+    zeroed-kept P f e q = (by-cond P (isPhaseZero e) (f e q) q, zeroed-key e .holder)
 
     zeroed-was : (e : Enlistment) → Some (λ w. e ≡ zeroedOf w) hs → Some (Is (e .number) (e .rm .0) (e .kind)) hs
-    zeroed-was e c = record { it = c .it; there = c .there; holds = subst (λ (w : Enlistment). Is (w .number) (w .rm .0) (w .kind) (c .it)) (sym (c .holds)) (same (c .it)) }
+    zeroed-was e c = record { it = c .it; there = c .there; holds = subst (λ (w : Enlistment). Is (w .number) (w .rm .0) (w .kind) (c .it)) (sym (c .holds)) (sym (k .number), sym (ap (λ (r : RmId). r .0) (k .rm)), sym (k .kind)) }
       where
-        same : (e : Enlistment) → Is (zeroedOf e .number) (zeroedOf e .rm .0) (zeroedOf e .kind) e
-        same e = by-cases (λ (w : Enlistment). Is (w .number) (w .rm .0) (w .kind) e) (isPhaseZero e) (inState enlistment.zero e) e (λ _. (refl, refl, refl)) (λ _. (refl, refl, refl))
+        k : SameKey (c .it) (zeroedOf (c .it))
+        k = zeroed-key (c .it)
 
     zeroed-keeps : Keeps zeroedOf
-    zeroed-keeps e = by-cases (λ (w : Enlistment). (w .holder ≡ e .holder) ⊎ (w .holder ≡ 0)) (isPhaseZero e) (inState enlistment.zero e) e (λ _. inl refl) (λ _. inl refl)
+    zeroed-keeps e = inl (zeroed-key e .holder)
 
     pub own-commit : stateAt p tb ≡ transaction.active → Own tb (event act.Commit) log t (commitOf p tb log)
     unfolding commitOf told
     own-commit state = by-cases (Own tb this-event log t) (any isPhaseZero hs) _ _
         (λ _. unlogged tb this-event log t p tb (untouched tb s t p at-p) refl tb₂ ss (addressed-neutral tb this-event ss (only-each notCommitted name.Zero phase-zeros refl) (only-each notAborted name.Zero phase-zeros refl)) (used-goes p transaction.phaseZero zeroedOf tb) (λ u d. goes-other t p tb at-p transaction.phaseZero zeroedOf u zeroed-keeps d)
-        (λ h made l a. rw (view-here transaction.active state, view-goes t p tb at-p transaction.phaseZero zeroedOf (λ q. omega arith))
+        (λ h made l a. rw (view-in t p tb refl transaction.active state, view-goes t p tb at-p transaction.phaseZero zeroedOf (λ q. omega arith))
         (gather refl (nothing-calm t .not-prepared) (quiet t tb this-event ss (only-each notCommitted name.Zero phase-zeros refl) (only-each notAborted name.Zero phase-zeros refl))
         (λ m r k w. held-own (Unasked m r k) (Unasked m r k) p zeroedOf tb (λ e _ q. zeroed-kept (Unasked m r k) (λ e q. q) e q) w)
         (λ m r k q w. absurd (nothing-calm t .not-enlisted m r k q))
         (λ e m. inl (zeroed-was e (held-came p zeroedOf tb m))))))
-        (λ n. own-start tb this-event log t p tb (untouched tb s t p at-p) refl hs (view-here transaction.active state) (nothing-calm t) (λ m r k w. w) (λ e m. record { it = e; there = m; holds = ((refl, refl, refl), held-votes tb s t p at-p m (none-each isPhaseZero hs n e m)) }) (λ c. omega (arith, c, state)))
+        (λ n. own-start tb this-event log t p tb (untouched tb s t p at-p) refl hs (view-in t p tb refl transaction.active state) (nothing-calm t) (λ m r k w. w) (λ e m. record { it = e; there = m; holds = ((refl, refl, refl), held-votes tb s t p at-p m (none-each isPhaseZero hs n e m)) }) (λ c. omega (arith, c, state)))
       where
         this-event : Event
         this-event = event act.Commit
@@ -175,8 +175,8 @@ module _ (tb : Table) (log : List ℕ) (s : Sound tb) (x : TxId) (y : RmId) wher
         ss = toEach name.Zero phase-zeros
 
     is-early : (stateAt p tb ≡ transaction.active) ⊎ (stateAt p tb ≡ transaction.phaseZero) → viewOf t tb ≡ early hs
-    is-early (inl q) = view-here transaction.active q
-    is-early (inr q) = view-here transaction.phaseZero q
+    is-early (inl q) = view-in t p tb refl transaction.active q
+    is-early (inr q) = view-in t p tb refl transaction.phaseZero q
 
     pub own-rollback : (stateAt p tb ≡ transaction.active) ⊎ (stateAt p tb ≡ transaction.phaseZero) → Own tb (event act.Rollback) log t (abortOf p tb log)
     own-rollback state = own-abort tb (event act.Rollback) log t p tb (untouched tb s t p at-p) refl (rw (is-early state) from-early)
@@ -275,12 +275,6 @@ module _ (tb : Table) (log : List ℕ) (s : Sound tb) (x : TxId) (y : RmId) wher
   unfolding told
   only-answered ss addressed moves = unwritten tb ask log t tb ss addressed refl (λ u d. refl) moves
 
-  again-kept : (e : Enlistment) → (toldAgain r e .holder ≡ e .holder) × (toldAgain r e .kind ≡ e .kind)
-  again-kept e = by-cases (λ (w : Enlistment). (w .holder ≡ e .holder) × (w .kind ≡ e .kind)) (isUndone r e && isIn enlistment.failedToNotify e) (inState enlistment.toldCommit e) e (λ _. (refl, refl)) (λ _. (refl, refl))
-
-  again-number : (e : Enlistment) → toldAgain r e .number ≡ e .number
-  again-number e = by-cases (λ (w : Enlistment). w .number ≡ e .number) (isUndone r e && isIn enlistment.failedToNotify e) (inState enlistment.toldCommit e) e (λ _. refl) (λ _. refl)
-
   again-waits : (q : Id) (e : Enlistment) → Waits q e → Waits q (toldAgain r e)
   again-waits q e w = by-cases (Waits q) (isUndone r e && isIn enlistment.failedToNotify e) (inState enlistment.toldCommit e) e (λ _. (w .0, w .1, inl refl)) (λ _. w)
 
@@ -299,18 +293,18 @@ module _ (tb : Table) (log : List ℕ) (s : Sound tb) (x : TxId) (y : RmId) wher
   ask-committing : stateAt p tb ≡ transaction.committing → (p ≡ 0 → ⊥) → Own tb ask log t (saying (signal name.AnswerCommitted answered ∷ []) (quietly (changeHeld p (toldAgain r) tb) log))
   unfolding told
   ask-committing state live = unlogged tb ask log t p tb (untouched tb s t p (at-p live)) refl (changeHeld p (toldAgain r) tb) (signal name.AnswerCommitted answered ∷ []) (addressed-one tb ask name.AnswerCommitted answered (answered-owned live)) same-used
-      (λ u d. view-held-other u p (toldAgain r) tb (λ e. inl (again-kept e .0)) (named-other t u (transactionAt p tb) (at-p live .here) d))
-      (λ h made l a. rw (view-here transaction.committing state, view-changes t p tb (at-p live) (toldAgain r) ∙ ap (λ k. look k (held p (changeHeld p (toldAgain r) tb))) state)
+      (λ u d. view-held-other u p (toldAgain r) tb (λ e. inl (told-key r e .holder)) (named-other t u (transactionAt p tb) (at-p live .here) d))
+      (λ h made l a. rw (view-in t p tb refl transaction.committing state, view-changes t p tb (at-p live) (toldAgain r) ∙ ap (λ k. look k (held p (changeHeld p (toldAgain r) tb))) state)
       (told-on refl (nothing-calm t) (none-aborted t tb ask (signal name.AnswerCommitted answered ∷ []) (only-one notAborted name.AnswerCommitted answered refl))
-      (λ q w. inl (held-own (Waits q) (Waits q) p (toldAgain r) tb (λ e _ v. (again-waits q e v, again-kept e .0)) w))
-      (λ w. held-own Durable Durable p (toldAgain r) tb (λ e _ v. (again-kept e .1 ∙ v, again-kept e .0)) w)
-      (λ no-durable e m d. let c : Some (λ w. e ≡ toldAgain r w) hs = held-came p (toldAgain r) tb m in no-durable (c .it) (c .there) (sym (again-kept (c .it) .1) ∙ sym (ap (λ (w : Enlistment). w .kind) (c .holds)) ∙ d))
-      (λ n w. held-own (λ e. e .number ≡ n) (λ e. e .number ≡ n) p (toldAgain r) tb (λ e _ q. (again-number e ∙ q, again-kept e .0)) w)))
+      (λ q w. inl (held-own (Waits q) (Waits q) p (toldAgain r) tb (λ e _ v. (again-waits q e v, told-key r e .holder)) w))
+      (λ w. held-own Durable Durable p (toldAgain r) tb (λ e _ v. (told-key r e .kind ∙ v, told-key r e .holder)) w)
+      (λ no-durable e m d. let c : Some (λ w. e ≡ toldAgain r w) hs = held-came p (toldAgain r) tb m in no-durable (c .it) (c .there) (sym (told-key r (c .it) .kind) ∙ sym (ap (λ (w : Enlistment). w .kind) (c .holds)) ∙ d))
+      (λ n w. held-own (λ e. e .number ≡ n) (λ e. e .number ≡ n) p (toldAgain r) tb (λ e _ q. (told-key r e .number ∙ q, told-key r e .holder)) w)))
 
   ask-over : (stateAt p tb ≡ 0) ⊎ (stateAt p tb ≡ transaction.aborting) → Own tb ask log t (saying (signal name.AnswerAborted 0 ∷ []) (quietly tb log))
   ask-over w = only-answered (signal name.AnswerAborted 0 ∷ []) (addressed-one tb ask name.AnswerAborted 0 (inl refl)) (λ h may l a. by-either
-      (λ q. rw (view-here 0 q) (answer-out r refl may (nothing-calm t) silent))
-      (λ q. rw (view-here transaction.aborting q) (abort refl from-aborting to-aborting silent)) w)
+      (λ q. rw (view-in t p tb refl 0 q) (answer-out r refl may (nothing-calm t) silent))
+      (λ q. rw (view-in t p tb refl transaction.aborting q) (abort refl from-aborting to-aborting silent)) w)
     where
       silent : alone.New t Committed (map (messageOf tb ask) (signal name.AnswerAborted 0 ∷ [])) → ⊥
       silent = none-committed t tb ask (signal name.AnswerAborted 0 ∷ []) (only-one notCommitted name.AnswerAborted 0 refl)

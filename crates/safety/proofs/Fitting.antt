@@ -8,11 +8,11 @@ use mathlib.Core.Bool.{true, false, not, false≢true}
 use mathlib.Core.List.{List, [], _∷_, _++_, map, List·Memᴰ·head, List·Memᴰ·tail, List·Memᴰ·cases-cons, List·Memᴰ·append-cases, List·Memᴰ·not-nil, Memᴰ·cast}
 use lib.ListN.{length, length-map, length-append}
 use lib.Dec.{eqb, ltb}
-use borrow.Author.Tests.{eqb-false, eq-eqb, ne-eqb, lt-ltb, ltb-true, ltb-false}
+use borrow.Author.Tests.{ne-eqb, lt-ltb, ltb-true, ltb-false}
 use Rattle.lists.specs.Lists.{any, filter}
 use Rattle.lists.specs.Members.{_∈_, Each, Some, Apart, nothing, more}
 use Rattle.lists.specs.Places.{placesWhere}
-use Rattle.lists.proofs.Tests.{by-test, by-either, no-clash, is-false, not-true, each-rest, in-filter, of-filter, in-map, of-map, any-some, some-any, count-filter, length-filter, each-none, apart-differ}
+use Rattle.lists.proofs.Tests.{by-test, by-either, no-clash, is-false, each-rest, in-filter, of-filter, in-map, of-map, any-some, some-any, count-filter, length-filter, each-none, apart-differ, in-one}
 use Rattle.lists.proofs.Places.{at-member, in-places, length-places}
 use Rattle.lists.proofs.Sorting.{Sorted, sorted-more}
 use Rattle.lists.proofs.Apart.{apart-head, apart-rest, apart-both, apart-map, no-more}
@@ -21,22 +21,23 @@ use Rattle.rules.specs.declared.Table.{Table}
 use Rattle.rules.specs.TransactionState as transaction
 use Rattle.rules.specs.Sizes.{recordSize, transactionPlaces, enlistmentPlaces}
 use Rattle.rules.specs.Identifiers.{Id, isZero}
-use Rattle.rules.specs.Table.{noTransaction, isLive, isNamed, placeNamed, transactionAt, stateAt, held, isDurable}
-use Rattle.rules.specs.Kinds as kind
-use Rattle.rules.specs.Sound.{Sound, Durable, Held, Identifier, isOpen, openPlaces, openCount}
+use Rattle.rules.specs.Table.{noTransaction, isLive, isNamed, placeNamed, transactionAt, stateAt, held}
+use Rattle.rules.specs.Sound.{Sound, Durable, isOpen, openPlaces, openCount}
 use Rattle.rules.specs.Log.{Entry, Record}
 use Rattle.rules.specs.Restart.{Open, isOpenAs, openAfter, isFitting, allFitting, entriesOpen, ascendFrom, sameEntryManager}
 use Rattle.rules.specs.Signals.{byNumber}
 use Rattle.rules.specs.Events.{entryOf}
-use Rattle.rules.proofs.Identifiers.{same-refl, same-equal, equal-same, zero-equal}
+use Rattle.rules.proofs.Identifiers.{same-refl, same-equal, equal-same, identifier-nonzero}
 use Rattle.rules.proofs.Frames.{of-held, named-is, named-found, named-place, not-zero, Stands}
 use Rattle.safety.specs.World.{ownerOf}
-use Rattle.safety.proofs.Alone.{Story, none, open-with, closed, bad, View, out, early, voting, single, committing, aborting, NoDurable, Entered}
+use Rattle.safety.proofs.Alone.{Story, none, open-with, closed, bad, View, out, early, voting, single, committing, aborting, NoDurable, Entered, durable-any}
 use Rattle.safety.proofs.Top.{Agrees}
 use Rattle.safety.proofs.Story.{mine, Tells}
 use Rattle.safety.proofs.View.{viewOf, looks-committing, state-none}
 use Rattle.safety.proofs.Given.{stands-sound, owner-held}
 use Rattle.safety.proofs.Open.{Fit, FitCommit, of-entries}
+use Rattle.rules.proofs.Kept.{true-live}
+use Rattle.rules.proofs.Put.{member-held}
 
 -- ── what is ready for a record ──────────────────────────────────────────────────────────────────────────────────
 
@@ -66,9 +67,6 @@ pub record OpenAt (o : Open) (tb : Table) : Type 0 where
   pub state : stateAt (placeNamed (o .id) tb) tb ≡ transaction.committing
   pub durable : Some Durable (held (placeNamed (o .id) tb) tb)
   pub entered : Entered (o .entries) (held (placeNamed (o .id) tb) tb)
-
-in-one : {A : Type 0} {x y : A} → x ∈ y ∷ [] → x ≡ y
-in-one m = by-either (λ e. e) (λ i. absurd (List·Memᴰ·not-nil i)) (List·Memᴰ·cases-cons m)
 
 pub mine-none : (u : Id) (os : List Open) → mine u os ≡ [] → any (isOpenAs u) os ≡ false
 unfolding mine
@@ -153,7 +151,7 @@ module _ (T : Table) where
       go p s e = apart-head a (s .it) (s .there) (one-name p (o .id) (s .it .id) (ap (λ q. isNamed (o .id) (transactionAt q T)) (sym e) ∙ placed o (h o (List·Memᴰ·head refl))) (ap (λ q. isNamed (s .it .id) (transactionAt q T)) (sym (s .holds)) ∙ placed (s .it) (h (s .it) (List·Memᴰ·tail (s .there)))))
 
   is-open : (o : Open) → OpenAt o T → isOpen (stateAt (placeNamed (o .id) T) T) (held (placeNamed (o .id) T) T) ≡ true
-  is-open o w = rw (w .state, some-any isDurable (held (placeNamed (o .id) T) T) (record { it = w .durable .it; there = w .durable .there; holds = eq-eqb (w .durable .it .kind) kind.durable (w .durable .holds) })) refl
+  is-open o w = rw (w .state, durable-any (held (placeNamed (o .id) T) T) (w .durable)) refl
 
   pub open-count : (os : List Open) → Apart (λ o q. o .id ≡ q .id) os → Each (λ o. OpenAt o T) os → length os ≤ openCount T
   unfolding openPlaces
@@ -184,11 +182,8 @@ module _ (T : Table) where
           go : Some (λ o. placeNamed (o .id) T ≡ q) os → q ∈ live
           go s = rw (← s .holds) (live-place (s .it .id) (placeNamed (s .it .id) T) (placed (s .it) (h (s .it) (s .there))))
 
-nonzero : (u : Id) → Identifier u → isZero u ≡ false
-nonzero u i = is-false (isZero u) (λ z. i .1 (zero-equal u (i .0) z))
-
 pub live-nonzero : (tb : Table) → Sound tb → (t : Id) (p : ℕ) → Stands t p tb → isZero t ≡ false
-live-nonzero tb s t p at = nonzero t (rw (named-is t (transactionAt p tb) (at .here) .1) at (s .transaction-identifiers (transactionAt p tb) (at-member noTransaction (tb .transactions) (named-place t p tb (at .here))) (eqb-false (stateAt p tb) 0 (not-true (eqb (stateAt p tb) 0) (named-is t (transactionAt p tb) (at .here) .0)))))
+live-nonzero tb s t p at = identifier-nonzero t (rw (named-is t (transactionAt p tb) (at .here) .1) at (s .transaction-identifiers (transactionAt p tb) (at-member noTransaction (tb .transactions) (named-place t p tb (at .here))) (true-live (transactionAt p tb) (named-is t (transactionAt p tb) (at .here) .0))))
 
 -- ── a commit record fits ────────────────────────────────────────────────────────────────────────────────────────
 
@@ -208,9 +203,6 @@ ascends n (x ∷ ds) s a h = rw (lt-ltb n (x .number) (h x (List·Memᴰ·head r
 module _ (tb : Table) (log : List ℕ) (os : List Open) (r : Ready tb log os) (t : Id) (p : ℕ) (at : Stands t p tb) (undecided : stateAt p tb ≡ transaction.committing → ⊥) (closed-to : any (isOpenAs t) os ≡ false)
     (ds : List Enlistment) (came : Each (λ x. Some (λ y. (x .rm .0 ≡ y .rm .0) × (x .number ≡ y .number)) (held p tb)) ds)
     (sorted : Sorted byNumber ds) (numbers : Apart (λ x y. x .number ≡ y .number) ds) (managers : Apart (λ x y. x .rm .0 ≡ y .rm .0) ds) where
-  here-held : {y : Enlistment} → y ∈ held p tb → Held y
-  here-held m z = not-zero (named-place t p tb (at .here)) (sym (of-held p tb m .1) ∙ z)
-
   -- its numbers are its own
   own-number : {x : Enlistment} → x ∈ ds → (x .number ≡ 0 → ⊥) × (ownerOf (x .number) tb ≡ t)
   own-number {x} m = rw (came x m .holds .1) (owner-held tb (r .sound) t p at (came x m .there))
@@ -266,7 +258,7 @@ module _ (tb : Table) (log : List ℕ) (os : List Open) (r : Ready tb log os) (t
     where
       manager : (e : Entry) → Some (λ x. entryOf x ≡ e) ds → isZero (e .rm) ≡ false
       manager e s = let y : Some (λ y. (s .it .rm .0 ≡ y .rm .0) × (s .it .number ≡ y .number)) (held p tb) = came (s .it) (s .there) in
-          ap isZero (sym (ap (λ (e : Entry). e .rm) (s .holds)) ∙ y .holds .0) ∙ nonzero (y .it .rm .0) (r .sound .manager-identifiers (y .it) (of-held p tb (y .there) .0) (here-held (y .there)))
+          ap isZero (sym (ap (λ (e : Entry). e .rm) (s .holds)) ∙ y .holds .0) ∙ identifier-nonzero (y .it .rm .0) (r .sound .manager-identifiers (y .it) (of-held p tb (y .there) .0) (member-held p tb (not-zero (named-place t p tb (at .here))) (y .there)))
 
       fresh : (e d : Entry) → Some (λ x. entryOf x ≡ e) ds → d ∈ entriesOpen os → eqb (d .number) (e .number) ≡ false
       fresh e d s i = ne-eqb (d .number) (e .number) (λ c. new-numbers d (s .it) i (s .there) (c ∙ sym (ap (λ (e : Entry). e .number) (s .holds))))

@@ -5,81 +5,47 @@ use mathlib.Core.Path.{_≡_, refl, sym, _∙_, ap}
 use mathlib.Core.Logic.{_⊎_, inl, inr}
 use mathlib.Core.Bool.{true}
 use mathlib.Core.List.{List}
-use lib.Dec.{eqb}
-use lib.ListN.{length}
-use borrow.Author.Tests.{eqb-true, eqb-false, eq-eqb, ne-eqb}
+use borrow.Author.Tests.{eq-eqb}
 use Rattle.lists.specs.Members.{_∈_}
-use Rattle.lists.specs.Lists.{filter}
-use Rattle.lists.proofs.Tests.{by-either, no-clash, not-true, false-not, in-filter, first-passes, some-any}
+use Rattle.lists.proofs.Tests.{by-either, some-any}
 use Rattle.rules.specs.declared.Enlistment.{Enlistment}
 use Rattle.rules.specs.declared.Table.{Table}
 use Rattle.rules.specs.TransactionState as transaction
 use Rattle.rules.specs.EnlistmentState as enlistment
-use Rattle.rules.specs.Sizes.{identifierSize}
 use Rattle.rules.specs.Identifiers.{Id}
-use Rattle.rules.specs.Table.{noTransaction, noEnlistment, isLive, isNamed, transactionAt, stateAt, idAt, isHeld, held, isNumbered, numbered}
-use Rattle.rules.specs.Sound.{Sound, HoldsWell, In, PhaseZero, Held, active, phase-zero, phase-one, single-phase, committing, aborting}
+use Rattle.rules.specs.Table.{noTransaction, isLive, isNamed, transactionAt, stateAt, idAt, held, isNumbered, numbered}
+use Rattle.rules.specs.Sound.{Sound, HoldsWell, In, PhaseZero, active, phase-zero, phase-one, single-phase, committing, aborting, Live}
 use Rattle.rules.specs.Refusals.{isNumberHeld}
-use Rattle.rules.proofs.Frames.{of-held, in-held, named-is, is-named, named-place, by-place, not-zero, Stands}
-use Rattle.lists.proofs.Places.{at-member}
-use Rattle.lists.proofs.Apart.{apart-one, one-place}
+use Rattle.rules.proofs.Reacting as reacting
+use Rattle.rules.proofs.Frames.{of-held, named-is, is-named, named-place, not-zero, Stands}
+use Rattle.lists.proofs.Apart.{one-place}
 use Rattle.safety.specs.World.{ownerOf}
+use Rattle.rules.proofs.Kept.{Kept, sound-kept, live-true, true-live}
+use Rattle.rules.proofs.Put.{member-held}
 
--- the identifiers of the live ones can be written
-abbrev pub Sized : Table → Type 0
-Sized tb = (p : ℕ) → isLive (transactionAt p tb) ≡ true → length (idAt p tb) ≡ identifierSize
+-- no two live transactions have one name
+pub one-place-named : {tb : Table} → Kept tb → (p q : ℕ) → Live (transactionAt p tb) → Live (transactionAt q tb) → idAt p tb ≡ idAt q tb → p ≡ q
+one-place-named {tb} k p q a b e = one-place (λ x y r. sym r) isLive noTransaction refl 1 p q (tb .transactions) (k .transactions .differ) (live-true (transactionAt p tb) a) (live-true (transactionAt q tb) b) e
 
 -- ── names and numbers ───────────────────────────────────────────────────────────────────────────────────────────
 
 module _ (tb : Table) (s : Sound tb) where
   pub stands-sound : (t : Id) (p : ℕ) → isNamed t (transactionAt p tb) ≡ true → Stands t p tb
-  stands-sound t p e = record { here = e; alone = λ q n. one-place (λ x y r. sym r) isLive noTransaction refl 1 q p (tb .transactions) (s .transactions-differ) (named-is t (transactionAt q tb) n .0) (named-is t (transactionAt p tb) e .0) (named-is t (transactionAt q tb) n .1 ∙ sym (named-is t (transactionAt p tb) e .1)) }
-
-  -- an enlistment's own transaction is the one of its place
-  pub owner-stands : {x : Enlistment} → x ∈ tb .enlistments → Held x → Stands (idAt (x .holder) tb) (x .holder) tb
-  owner-stands {x} m h = stands-sound (idAt (x .holder) tb) (x .holder) (is-named (transactionAt (x .holder) tb) (false-not (ne-eqb (stateAt (x .holder) tb) 0 (s .holders-live x m h))))
-
-  pub id-size : Sized tb
-  id-size p l = by-place p (tb .transactions)
-      (λ h. s .transaction-identifiers (transactionAt p tb) (at-member noTransaction (tb .transactions) h) (eqb-false (stateAt p tb) 0 (not-true (eqb (stateAt p tb) 0) l)) .0)
-      (λ z. no-clash (isLive (transactionAt p tb)) l (ap isLive z))
-
-  vacant-number : {x : Enlistment} → x ∈ tb .enlistments → x .holder ≡ 0 → x .number ≡ 0
-  vacant-number {x} m z = ap (λ (e : Enlistment). e .number) (s .empty-enlistments x m z)
-
-  numbered-held : {x : Enlistment} → x ∈ tb .enlistments → (x .number ≡ 0 → ⊥) → Held x
-  numbered-held m n z = n (vacant-number m z)
-
-  in-held-ones : {x : Enlistment} → x ∈ tb .enlistments → Held x → x ∈ filter isHeld (tb .enlistments)
-  in-held-ones {x} m h = in-filter isHeld (tb .enlistments) m (false-not (ne-eqb (x .holder) 0 h))
-
-  -- a number that is held is that of an enlistment of the table
-  numbered-found : (n : ℕ) → (n ≡ 0 → ⊥) → isNumberHeld n tb ≡ true → (numbered n tb ∈ tb .enlistments) × (numbered n tb .number ≡ n) × Held (numbered n tb)
-  unfolding numbered
-  numbered-found n nonzero h = (found .0, is-n, numbered-held (found .0) (λ z. nonzero (sym is-n ∙ z)))
+  stands-sound t p e = record { here = e; alone = λ q n. one-place-named (sound-kept s) q p (live q n) (live p e) (named-is t (transactionAt q tb) n .1 ∙ sym (named-is t (transactionAt p tb) e .1)) }
     where
-      found : (numbered n tb ∈ tb .enlistments) × (isNumbered n (numbered n tb) ≡ true)
-      found = first-passes noEnlistment (isNumbered n) (tb .enlistments) h
-
-      is-n : numbered n tb .number ≡ n
-      is-n = eqb-true (numbered n tb .number) n (found .1)
+      live : (q : ℕ) → isNamed t (transactionAt q tb) ≡ true → Live (transactionAt q tb)
+      live q n = true-live (transactionAt q tb) (named-is t (transactionAt q tb) n .0)
 
   -- numbers differ, so that the enlistment with a number is the one
-  pub numbered-is : (n : ℕ) → (n ≡ 0 → ⊥) → {x : Enlistment} → x ∈ tb .enlistments → x .number ≡ n → numbered n tb ≡ x
-  numbered-is n nonzero {x} m e = apart-one (λ a b r. sym r) (s .numbers-differ) (in-held-ones (found .0) (found .2)) (in-held-ones m (numbered-held m (λ z. nonzero (sym e ∙ z)))) (found .1 ∙ sym e)
-    where
-      found : (numbered n tb ∈ tb .enlistments) × (numbered n tb .number ≡ n) × Held (numbered n tb)
-      found = numbered-found n nonzero (some-any (isNumbered n) (tb .enlistments) (record { it = x; there = m; holds = eq-eqb (x .number) n e }))
+  numbered-is : (n : ℕ) → (n ≡ 0 → ⊥) → {x : Enlistment} → x ∈ tb .enlistments → x .number ≡ n → numbered n tb ≡ x
+  numbered-is n nonzero {x} m e = sym (reacting.is-named n tb s nonzero (some-any (isNumbered n) (tb .enlistments) (record { it = x; there = m; holds = eq-eqb (x .number) n e })) .alone x m e)
 
   -- what a live transaction holds is its own
   pub owner-held : (t : Id) (p : ℕ) → Stands t p tb → {x : Enlistment} → x ∈ held p tb → (x .number ≡ 0 → ⊥) × (ownerOf (x .number) tb ≡ t)
   owner-held t p at {x} m = (nonzero, ap (λ (e : Enlistment). idAt (e .holder) tb) (numbered-is (x .number) nonzero (of-held p tb m .0) refl) ∙ ap (λ q. idAt q tb) (of-held p tb m .1) ∙ named-is t (transactionAt p tb) (at .here) .1)
     where
-      is-held : Held x
-      is-held z = not-zero (named-place t p tb (at .here)) (sym (of-held p tb m .1) ∙ z)
-
       nonzero : x .number ≡ 0 → ⊥
-      nonzero = s .numbers x (of-held p tb m .0) is-held .0
+      nonzero = s .numbers x (of-held p tb m .0) (member-held p tb (not-zero (named-place t p tb (at .here))) m) .0
 
 -- ── by the state of an enlistment ───────────────────────────────────────────────────────────────────────────────
 
@@ -111,15 +77,12 @@ pub record Named (tb : Table) (n : ℕ) : Type 0 where
 
 pub named-sound : (tb : Table) → Sound tb → (n : ℕ) → (n ≡ 0 → ⊥) → isNumberHeld n tb ≡ true → Named tb n
 named-sound tb s n nonzero h = record {
-  number = found .1;
-  stands = owner-stands tb s (found .0) (found .2);
-  line = row (s .states (numbered n tb .holder) (s .holders-live (numbered n tb) (found .0) (found .2))) mine;
-  mine = mine;
-  only = λ m e. numbered-is tb s n nonzero (of-held (numbered n tb .holder) tb m .0) e;
+  number = d .number;
+  stands = stands-sound tb s (ownerOf n tb) (numbered n tb .holder) (is-named (transactionAt (numbered n tb .holder) tb) (live-true (transactionAt (numbered n tb .holder) tb) (d .live)));
+  line = row (s .states (numbered n tb .holder) (d .live)) (d .here);
+  mine = d .here;
+  only = λ {x} m e. sym (d .alone x (of-held (numbered n tb .holder) tb m .0) e);
 }
   where
-    found : (numbered n tb ∈ tb .enlistments) × (numbered n tb .number ≡ n) × Held (numbered n tb)
-    found = numbered-found tb s n nonzero h
-
-    mine : numbered n tb ∈ held (numbered n tb .holder) tb
-    mine = in-held (numbered n tb .holder) tb (found .0) refl
+    d : reacting.Named n tb (numbered n tb)
+    d = reacting.is-named n tb s nonzero h

@@ -30,7 +30,7 @@ use Rattle.rules.specs.Events.{Outcome, append, endOf, endIfDone, abortedOf, ab
 use Rattle.rules.specs.Refusals.{refusalOf}
 use Rattle.rules.specs.Step.{Step, doneStep, refusedStep, stepOf}
 use Rattle.rules.proofs.Frames.{length-written}
-use Rattle.safety.proofs.Own.{by-cases}
+use Rattle.lists.proofs.Tests.{by-cases}
 
 pub record Same (tb : Table) (log : List ℕ) (tb′ : Table) (log′ : List ℕ) : Type 0 where
   pub transactions : length (tb′ .transactions) ≡ length (tb .transactions)

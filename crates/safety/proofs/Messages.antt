@@ -4,12 +4,12 @@ use Prim.Native.Nat.{ℕ}
 use mathlib.Core.Path.{_≡_, refl, sym, _∙_, ap}
 use mathlib.Core.Logic.{_⊎_, inl, inr}
 use mathlib.Core.Bool.{Bool, true, false, true≢false}
-use mathlib.Core.List.{List, [], _∷_, _++_, map, List·Memᴰ·cases-cons, List·Memᴰ·append-cases, List·Memᴰ·not-nil}
+use mathlib.Core.List.{List, [], _∷_, map}
 use lib.Dec.{eqb}
 use borrow.Author.Tests.{eq-eqb}
 use Rattle.lists.specs.Members.{Each, Some}
 use Rattle.lists.specs.Sorting.{sortBy}
-use Rattle.lists.proofs.Tests.{by-test, by-either, of-map}
+use Rattle.lists.proofs.Tests.{by-test, by-either, of-map, each-nothing, each-one}
 use Rattle.lists.proofs.Sorting.{of-sort}
 use Rattle.rules.specs.declared.Enlistment.{Enlistment}
 use Rattle.rules.specs.declared.Table.{Table}
@@ -53,32 +53,31 @@ notAborted name.AnswerCommitted = true
 notAborted name.AnswerAborted = false
 notAborted name.AnswerNotYet = true
 
+-- a name that passes is none of three that do not
+is-none : (f : Name → Bool) {x y z : Name} → f x ≡ false → f y ≡ false → f z ≡ false → (a : Name) → f a ≡ true → (a ≡ x) ⊎ ((a ≡ y) ⊎ (a ≡ z)) → ⊥
+is-none f x y z a e (inl p) = true≢false (sym e ∙ ap f p ∙ x)
+is-none f x y z a e (inr (inl p)) = true≢false (sym e ∙ ap f p ∙ y)
+is-none f x y z a e (inr (inr p)) = true≢false (sym e ∙ ap f p ∙ z)
+
 is-not-committed : (a : Name) → notCommitted a ≡ true → Committed a → ⊥
-is-not-committed a e (inl p) = true≢false (sym e ∙ ap notCommitted p)
-is-not-committed a e (inr (inl p)) = true≢false (sym e ∙ ap notCommitted p)
-is-not-committed a e (inr (inr p)) = true≢false (sym e ∙ ap notCommitted p)
+is-not-committed = is-none notCommitted refl refl refl
 
 is-not-aborted : (a : Name) → notAborted a ≡ true → Aborted a → ⊥
-is-not-aborted a e (inl p) = true≢false (sym e ∙ ap notAborted p)
-is-not-aborted a e (inr (inl p)) = true≢false (sym e ∙ ap notAborted p)
-is-not-aborted a e (inr (inr p)) = true≢false (sym e ∙ ap notAborted p)
+is-not-aborted = is-none notAborted refl refl refl
 
 -- every signal's name passes a test
 abbrev pub Only : (Name → Bool) → List Signal → Type 0
 Only f ss = Each (λ s. f (s .name) ≡ true) ss
 
 pub only-nothing : (f : Name → Bool) → Only f []
-only-nothing f s m = absurd (List·Memᴰ·not-nil m)
+only-nothing f = each-nothing (λ s. f (s .name) ≡ true)
 
 pub only-one : (f : Name → Bool) (a : Name) (n : ℕ) → f a ≡ true → Only f (signal a n ∷ [])
-only-one f a n e s m = ap (λ (s : Signal). f (s .name)) (by-either (λ p. p) (λ q. absurd (List·Memᴰ·not-nil q)) (List·Memᴰ·cases-cons m)) ∙ e
+only-one f a n e = each-one (λ s. f (s .name) ≡ true) e
 
 pub only-each : (f : Name → Bool) (a : Name) (es : List Enlistment) → f a ≡ true → Only f (toEach a es)
 unfolding toEach
 only-each f a es e s m = sym (ap (λ (s : Signal). f (s .name)) (of-map (λ e. signal a (e .number)) (sortBy byNumber es) m .holds)) ∙ e
-
-pub only-both : (f : Name → Bool) (a b : List Signal) → Only f a → Only f b → Only f (a ++ b)
-only-both f a b p q s m = by-either (p s) (q s) (List·Memᴰ·append-cases a m)
 
 -- ── whom they are about ─────────────────────────────────────────────────────────────────────────────────────────
 
@@ -100,10 +99,10 @@ owned-about tb e a n (inr q) = by-test (eqb n 0) (λ t. rw t refl) (λ t. rw t q
 
 module _ (tb : Table) (e : Event) where
   pub addressed-nothing : Addressed tb e []
-  addressed-nothing s m = absurd (List·Memᴰ·not-nil m)
+  addressed-nothing = each-nothing (Home tb e)
 
   pub addressed-one : (a : Name) (n : ℕ) → Owned tb (subjectOf tb e) n → Addressed tb e (signal a n ∷ [])
-  addressed-one a n o s m = inl (rw (by-either (λ q. q) (λ q. absurd (List·Memᴰ·not-nil q)) (List·Memᴰ·cases-cons m)) (owned-about tb e a n o))
+  addressed-one a n o = each-one (Home tb e) (inl (owned-about tb e a n o))
 
   pub addressed-neutral : (ss : List Signal) → Only notCommitted ss → Only notAborted ss → Addressed tb e ss
   addressed-neutral ss f g s m = inr (f s m, g s m)
@@ -114,9 +113,6 @@ module _ (tb : Table) (e : Event) where
     where
       go : Some (λ x. signal a (x .number) ≡ s) (sortBy byNumber es) → Home tb e s
       go w = inl (rw (← w .holds) (owned-about tb e a (w .it .number) (o (w .it) (of-sort byNumber es (w .there)))))
-
-  pub addressed-both : (a b : List Signal) → Addressed tb e a → Addressed tb e b → Addressed tb e (a ++ b)
-  addressed-both a b p q s m = by-either (p s) (q s) (List·Memᴰ·append-cases a m)
 
 module _ (t : Id) (tb : Table) (e : Event) (ss : List Signal) where
   none-such : (P : Name → Type 0) (f : Name → Bool) → ((a : Name) → f a ≡ true → P a → ⊥) → Only f ss → New t P (map (messageOf tb e) ss) → ⊥
@@ -138,10 +134,10 @@ module _ (t : Id) (tb : Table) (e : Event) (ss : List Signal) where
   -- verdicts are about the event's transaction alone
   pub quiet-other : (t ≡ subjectOf tb e → ⊥) → Addressed tb e ss → Quiet t (map (messageOf tb e) ss)
   unfolding messageOf
-  quiet-other d addressed = record { no-committed = λ m. committed m (of-map (messageOf tb e) ss (m .there)); no-aborted = λ m. aborted m (of-map (messageOf tb e) ss (m .there)) }
+  quiet-other d addressed = record { no-committed = none Committed (λ s w. is-not-committed (s .name) (w .0)); no-aborted = none Aborted (λ s w. is-not-aborted (s .name) (w .1)) }
     where
-      committed : (m : New t Committed (map (messageOf tb e) ss)) → Some (λ s. messageOf tb e s ≡ m .it) ss → ⊥
-      committed m s = by-either (λ w. d (sym (m .holds .0) ∙ sym (ap (λ (m : Message). m .about) (s .holds)) ∙ w)) (λ w. is-not-committed (s .it .name) (w .0) (rw (← s .holds) at (m .holds .1))) (addressed (s .it) (s .there))
-
-      aborted : (m : New t Aborted (map (messageOf tb e) ss)) → Some (λ s. messageOf tb e s ≡ m .it) ss → ⊥
-      aborted m s = by-either (λ w. d (sym (m .holds .0) ∙ sym (ap (λ (m : Message). m .about) (s .holds)) ∙ w)) (λ w. is-not-aborted (s .it .name) (w .1) (rw (← s .holds) at (m .holds .1))) (addressed (s .it) (s .there))
+      none : (P : Name → Type 0) → ((s : Signal) → (notCommitted (s .name) ≡ true) × (notAborted (s .name) ≡ true) → P (s .name) → ⊥) → New t P (map (messageOf tb e) ss) → ⊥
+      none P not-named m = go (of-map (messageOf tb e) ss (m .there))
+        where
+          go : Some (λ s. messageOf tb e s ≡ m .it) ss → ⊥
+          go s = by-either (λ w. d (sym (m .holds .0) ∙ sym (ap (λ (m : Message). m .about) (s .holds)) ∙ w)) (λ w. not-named (s .it) w (rw (← s .holds) at (m .holds .1))) (addressed (s .it) (s .there))

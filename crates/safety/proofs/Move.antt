@@ -5,7 +5,7 @@ use native.Mathlib.Omega.{arith}
 use mathlib.Core.Path.{_≡_, refl, sym, _∙_, ap}
 use mathlib.Core.Logic.{_⊎_, inl, inr, ⊎-elim}
 use mathlib.Core.Bool.{Bool, true, false}
-use mathlib.Core.List.{List, _∷_, _++_, List·Memᴰ, List·Memᴰ·head, List·Memᴰ·tail, List·Memᴰ·cases-cons, List·Memᴰ·append-cases, Memᴰ·append-left, Memᴰ·append-right, Memᴰ·of-map}
+use mathlib.Core.List.{List, [], _∷_, _++_, List·Memᴰ, List·Memᴰ·head, List·Memᴰ·tail, List·Memᴰ·cases-cons, List·Memᴰ·append-cases, List·Memᴰ·not-nil, Memᴰ·append-left, Memᴰ·append-right, Memᴰ·of-map}
 use Rattle.lists.specs.Members.{_∈_, Each, Some}
 use Rattle.lists.proofs.Tests.{no-clash}
 use Rattle.rules.specs.declared.Enlistment.{Enlistment}
@@ -33,9 +33,12 @@ isCalm (Note.reenlisted r) = true
 isCalm Note.nothing = true
 
 module _ (t : Id) where
+  abbrev pub NotEnlisted : Note → Type 0
+  NotEnlisted x = (n : ℕ) (r : Id) (k : ℕ) → x ≡ Note.enlisted t n r k → ⊥
+
   -- the note tells neither of a new enlistment nor of a prepared vote of t
   pub record Calm (x : Note) : Type 0 where
-    pub not-enlisted : (n : ℕ) (r : Id) (k : ℕ) → x ≡ Note.enlisted t n r k → ⊥
+    pub not-enlisted : NotEnlisted x
     pub not-prepared : (r : Id) → Prepares t r x → ⊥
 
   pub calm-note : (x : Note) → isCalm x ≡ true → Calm x
@@ -44,12 +47,12 @@ module _ (t : Id) where
   pub nothing-calm : Calm Note.nothing
   nothing-calm = calm-note Note.nothing refl
 
-  abbrev pub NotEnlisted : Note → Type 0
-  NotEnlisted x = (n : ℕ) (r : Id) (k : ℕ) → x ≡ Note.enlisted t n r k → ⊥
-
   pub record Quiet (ms : List Message) : Type 0 where
     pub no-committed : New t Committed ms → ⊥
     pub no-aborted : New t Aborted ms → ⊥
+
+  pub quiet-nothing : Quiet []
+  quiet-nothing = record { no-committed = λ m. List·Memᴰ·not-nil (m .there); no-aborted = λ m. List·Memᴰ·not-nil (m .there) }
 
   -- the note is a yes vote of this enlistment
   abbrev pub VoteOf : ℕ → Id → ℕ → Note → Type 0

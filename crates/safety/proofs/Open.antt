@@ -10,7 +10,7 @@ use lib.Dec.{eqb, ltb, leb}
 use borrow.Author.Tests.{eq-eqb, ltb-true, leb-true, le-leb}
 use Rattle.lists.specs.Lists.{any, none, filter, differ}
 use Rattle.lists.specs.Members.{_∈_, Each, Some, Apart, nothing, more}
-use Rattle.lists.proofs.Tests.{by-test, by-either, no-clash, true-and, not-true, each-nothing, each-more, each-head, each-rest, of-filter, none-each, some-any, length-filter, differ-apart}
+use Rattle.lists.proofs.Tests.{by-test, by-either, no-clash, true-and, not-true, each-nothing, each-more, each-head, each-rest, of-filter, none-each, some-any, length-filter, differ-apart, each-both, each-one, in-one}
 use Rattle.lists.proofs.Apart.{apart-both, apart-first, apart-second, apart-cross, apart-filter}
 use Rattle.rules.specs.Identifiers.{Id, isZero}
 use Rattle.rules.specs.Sizes.{identifierSize, heldMost, transactionPlaces, enlistmentPlaces}
@@ -142,19 +142,13 @@ pub fits-commit : (os : List Open) (t : Id) (es : List Entry) → FitCommit os t
 unfolding isFitting
 fits-commit os t es k = rw (k .nonzero, k .managers, k .not-open, k .ascending, k .numbers-new, k .managers-differ, le-leb (length os + 1) transactionPlaces (k .few), le-leb (length (entriesOpen os) + length es) enlistmentPlaces (k .few-entries)) refl
 
-each-both : {A : Type 0} {P : A → Type 0} (xs ys : List A) → Each P xs → Each P ys → Each P (xs ++ ys)
-each-both xs ys a b x m = by-either (a x) (b x) (List·Memᴰ·append-cases xs m)
-
-each-one : {A : Type 0} (P : A → Type 0) (x : A) → P x → Each P (x ∷ [])
-each-one P x p = each-more p (each-nothing P)
-
 fit-commit : (os : List Open) (t : Id) (es : List Entry) → Fit os → Valid (Record.commit t es) → FitCommit os t es → Fit (os ++ (record { id = t; entries = es } ∷ []))
 unfolding entriesOpen
 fit-commit os t es k (valid-commit a b c d) f = record {
-  id-sizes = each-both os (o ∷ []) (k .id-sizes) (each-one (λ o. length (o .id) ≡ identifierSize) o a);
-  ids = each-both os (o ∷ []) (k .ids) (each-one (λ o. isZero (o .id) ≡ false) o (f .nonzero));
-  ids-apart = apart-both os (o ∷ []) (k .ids-apart) (more (each-nothing _) nothing) (λ x y m n r. other x y m (only y n) r);
-  entries = each-both os (o ∷ []) (k .entries) (each-one (λ o. FitEntries (o .entries)) o (record {
+  id-sizes = each-both os (o ∷ []) (k .id-sizes) (each-one (λ o. length (o .id) ≡ identifierSize) a);
+  ids = each-both os (o ∷ []) (k .ids) (each-one (λ o. isZero (o .id) ≡ false) (f .nonzero));
+  ids-apart = apart-both os (o ∷ []) (k .ids-apart) (more (each-nothing _) nothing) (λ x y m n r. other x y m (in-one n) r);
+  entries = each-both os (o ∷ []) (k .entries) (each-one (λ o. FitEntries (o .entries)) (record {
     some-entry = b;
     few = c;
     valid = d;
@@ -172,9 +166,6 @@ fit-commit os t es k (valid-commit a b c d) f = record {
 
     all-entries : entriesOpen (os ++ (o ∷ [])) ≡ entriesOpen os ++ es
     all-entries = entries-append os (o ∷ []) ∙ ap (λ l. entriesOpen os ++ l) (append-nil es)
-
-    only : (y : Open) → y ∈ o ∷ [] → y ≡ o
-    only y n = by-either (λ e. e) (λ i. absurd (List·Memᴰ·not-nil i)) (List·Memᴰ·cases-cons n)
 
     other : (x y : Open) → x ∈ os → y ≡ o → x .id ≡ y .id → ⊥
     other x y m e r = absurd (no-clash (isOpenAs t x) (equal-same (x .id) t (r ∙ ap (λ (q : Open). q .id) e)) (none-each (isOpenAs t) os (f .not-open) x m))

@@ -1,18 +1,18 @@
 -- An event changes the state of one transaction and of what it holds: so it is a move of that one, and leaves every other one alone, of which neither place nor
 -- record changes. Here of the parts that the events share: abort, decide, the end, start of phase one.
-use Prim.Native.Nat.{ℕ, _+_, _*_, _-_, _≤_, _<_}
+use Prim.Native.Nat.{ℕ, _+_, _*_, _-_, _≤_}
 use native.Mathlib.Omega.{arith}
 use mathlib.Core.Path.{_≡_, refl, sym, _∙_, ap, ap₂}
 use mathlib.Core.Logic.{_⊎_, inl, inr}
-use mathlib.Core.Bool.{Bool, true, false, cond, _&&_}
-use mathlib.Core.List.{List, [], _∷_, _++_, map, append-nil, List·Memᴰ·head, List·Memᴰ·cases-cons, List·Memᴰ·not-nil, Memᴰ·cast}
+use mathlib.Core.Bool.{true, false, _&&_}
+use mathlib.Core.List.{List, [], _∷_, _++_, map, append-nil, List·Memᴰ·head, Memᴰ·cast}
 use lib.ListN.{length, take, length-append, length-map}
 use lib.Dec.{eqb}
 use borrow.Author.Tests.{eqb-true, eqb-false, eq-eqb, ne-eqb, ltb-false}
 use Rattle.lists.specs.Members.{_∈_, Each, Some, Apart}
 use Rattle.lists.specs.Lists.{all, any, none, filter}
 use Rattle.lists.specs.Sorting.{insertBy, sortBy}
-use Rattle.lists.proofs.Tests.{by-test, by-either, no-clash, true-and, not-true, not-false, in-filter, of-filter, length-filter, in-map, of-map, all-each, any-some, some-any, none-each, each-nothing, each-more, each-head, each-rest, each-map}
+use Rattle.lists.proofs.Tests.{by-cases, by-test, by-either, no-clash, true-and, not-true, not-false, in-filter, of-filter, length-filter, in-map, of-map, all-each, some-any, none-each, each-nothing, each-map, each-both, each-one, in-one, member-some}
 use Rattle.lists.proofs.Sorting.{in-sort, of-sort, length-sort}
 use Rattle.lists.proofs.Apart.{apart-filter, apart-sort}
 use Rattle.rules.specs.declared.Enlistment.{Enlistment}
@@ -23,34 +23,32 @@ use Rattle.rules.specs.declared.Name.the-variants as name
 use Rattle.rules.specs.Kinds as kind
 use Rattle.rules.specs.TransactionState as transaction
 use Rattle.rules.specs.EnlistmentState as enlistment
-use Rattle.rules.specs.Sizes.{identifierSize, largestNumber, heldMost, entrySize, recordSize}
+use Rattle.rules.specs.Sizes.{identifierSize, largestNumber, heldMost, recordSize}
 use Rattle.rules.specs.Identifiers.{Id, sameBytes}
 use Rattle.rules.specs.Table.{transactionAt, stateAt, idAt, held, isDurable, isMarked, isIn, isDone, inState, changeHeld, changeTransaction, goTo, emptied, useMore}
 use Rattle.rules.specs.Sound.{openCount, Durable}
-use Rattle.rules.specs.Log.{Entry, Record, low4, recordBytes, entryBytes, entriesBytes, allBytes, commitSize, forgetSize, written}
+use Rattle.rules.specs.Log.{Entry, Record, recordBytes, entriesBytes, allBytes, commitSize, forgetSize, written}
 use Rattle.rules.specs.Restart.{Open, isOpenAs, afterRecord, openAfter, allFitting}
 use Rattle.rules.specs.Signals.{byNumber, signal, toEach, toApp, Committed}
 use Rattle.rules.specs.Events.{Outcome, quietly, saying, append, endOf, endIfDone, hearsAbort, abortedOf, abortOf, entryOf, commitRecord, lacksRoom, committedOf, commitSignals, committing, endCommitted, decideOf, startPhaseOne}
 use Rattle.rules.proofs.Identifiers.{same-refl, equal-same, other-not-same}
-use Rattle.rules.proofs.Records.{ValidEntry, Valid, valid-commit, valid-forget}
+use Rattle.rules.proofs.Records.{ValidEntry, Valid, valid-commit, valid-forget, entries-length}
 use Rattle.rules.proofs.Frames.{Keeps, held-came, held-own, named-is, named-other, written-used, Stands, stands-goes, state-goes}
-use Rattle.rules.proofs.Parts.{used-emptied}
+use Rattle.rules.proofs.Parts.{used-emptied, closed-end}
 use Rattle.rules.proofs.Ordered.{by-number-ascends}
 use Rattle.safety.specs.World.{Note, noteOf, messageOf, subjectOf}
 use Rattle.safety.specs.Host.{Prepares, Closes, careful, Makes}
 use Rattle.safety.proofs.Alone as alone
-use Rattle.safety.proofs.Alone.{Story, closed, early, voting, aborting, Hopes, Waits, Is, Unasked, Preparing, NoDurable, managersOf, Entered, New}
+use Rattle.safety.proofs.Alone.{Story, early, voting, aborting, Hopes, Waits, Is, Unasked, Preparing, NoDurable, managersOf, Entered, New, out, none-durable, any-durable, waits-undone}
 use Rattle.safety.proofs.Move.{Calm, NotEnlisted, VoteOf, Doomed, from-voting, from-aborting, to-out, to-aborting, Move, prepare, ask-one, commit-empty, decide-logged, decide-unlogged, decide-empty, abort, told-on, end-logged, end-unlogged}
 use Rattle.safety.proofs.Top.{Agrees}
-use Rattle.safety.proofs.Story.{next, story, onForget, mine, Tells}
+use Rattle.safety.proofs.Story.{next, story, mine, Tells, forgotten}
 use Rattle.safety.proofs.View.{viewOf, look, view-stands, view-goes, goes-other, view-ends, ends-other, view-more, stands-held}
 use Rattle.safety.proofs.Open.{FitCommit, fits-commit}
 use Rattle.safety.proofs.Fitting.{Ready, Judged, judged-nothing, mine-none, told-open, open-shown, shown-open, open-count, commit-fit, live-nonzero, forget-fit, one-forgotten}
-use Rattle.safety.proofs.Messages.{notCommitted, notAborted, Only, only-nothing, only-one, only-each, only-both, Addressed, Owned, owned-about, addressed-nothing, addressed-one, addressed-each, addressed-both, none-committed, none-aborted, quiet}
-
-pub by-cases : {A : Type 0} (P : A → Type 0) (b : Bool) (x y : A) → (b ≡ true → P x) → (b ≡ false → P y) → P (cond b x y)
-by-cases P true x y f g = f refl
-by-cases P false x y f g = g refl
+use Rattle.safety.proofs.Messages.{notCommitted, notAborted, Only, only-nothing, only-one, only-each, Addressed, Owned, owned-about, addressed-nothing, addressed-one, addressed-each, none-committed, none-aborted, quiet}
+use Rattle.rules.proofs.Phases.{committed-key}
+use Rattle.rules.specs.declared.Name.{Name}
 
 -- ── what is shown of an outcome ─────────────────────────────────────────────────────────────────────────────────
 
@@ -91,8 +89,7 @@ pub ends-for : (t : Id) (p : ℕ) (tb : Table) → Stands t p tb → (u : Id) �
 ends-for t p tb s u d = ends-other u p tb (named-other t u (transactionAt p tb) (s .here) d)
 
 pub unlogged-end : (p : ℕ) (tb : Table) (log : List ℕ) → (stateAt p tb ≡ transaction.committing → ⊥) → endOf p tb log ≡ quietly (emptied p tb) log
-unfolding endOf
-unlogged-end p tb log n = rw (ne-eqb (stateAt p tb) transaction.committing n) refl
+unlogged-end p tb log n = closed-end p tb log (rw (ne-eqb (stateAt p tb) transaction.committing n) refl)
 
 -- ── what an event does to its own transaction ───────────────────────────────────────────────────────────────────
 
@@ -128,6 +125,13 @@ module _ (tb : Table) (e : Event) (log : List ℕ) (t : Id) (p : ℕ) (tb₁ : T
       → Own tb e log t (record { table = tb₂; log = log; signals = ss })
   unlogged tb₂ ss addressed same-used others move = unwritten tb e log t tb₂ ss addressed (same-used ∙ z .used) (λ u d. others u d ∙ z .other-view u d) move
 
+  -- an end that says this to the application, and writes nothing
+  pub own-end-saying : (a : Name) → (stateAt p tb₁ ≡ transaction.committing → ⊥)
+      → ((h : List Note) → Makes careful h e → (l : Story) → Agrees (viewOf t tb) l → Move t h (noteOf tb e) (map (messageOf tb e) (toApp a)) l l (viewOf t tb) out)
+      → Here (saying (toApp a) (endOf p tb₁ log))
+  own-end-saying a not-committing moves = rw (unlogged-end p tb₁ log not-committing) (unlogged (emptied p tb₁) (toApp a) (addressed-one tb e a 0 (inl refl)) (used-emptied p tb₁) (ends-for t p tb₁ (z .stands))
+      (λ h f l g. rw (view-ends t p tb₁ (z .stands)) (moves h f l g)))
+
   -- ── abort ─────────────────────────────────────────────────────────────────────────────────────────────────────
 
   keeps-aborted : Keeps abortedOf
@@ -159,13 +163,13 @@ module _ (tb : Table) (e : Event) (log : List ℕ) (t : Id) (p : ℕ) (tb₁ : T
       ss = toEach name.Abort hs ++ toApp name.AppAborted
 
       addressed : Addressed tb e ss
-      addressed = addressed-both tb e (toEach name.Abort hs) (toApp name.AppAborted) (addressed-each tb e name.Abort hs (λ x m. home x (of-filter hearsAbort hs₁ m .0))) (addressed-one tb e name.AppAborted 0 (inl refl))
+      addressed = each-both (toEach name.Abort hs) (toApp name.AppAborted) (addressed-each tb e name.Abort hs (λ x m. home x (of-filter hearsAbort hs₁ m .0))) (addressed-one tb e name.AppAborted 0 (inl refl))
 
       others : (u : Id) → (u ≡ t → ⊥) → viewOf u tb₂ ≡ viewOf u tb₁
       others u n = goes-other t p tb₁ (z .stands) transaction.aborting abortedOf u keeps-aborted n
 
       silent : New t Committed (map (messageOf tb e) ss) → ⊥
-      silent = none-committed t tb e ss (only-both notCommitted (toEach name.Abort hs) (toApp name.AppAborted) (only-each notCommitted name.Abort hs refl) (only-one notCommitted name.AppAborted 0 refl))
+      silent = none-committed t tb e ss (each-both (toEach name.Abort hs) (toApp name.AppAborted) (only-each notCommitted name.Abort hs refl) (only-one notCommitted name.AppAborted 0 refl))
 
   -- ── decide ────────────────────────────────────────────────────────────────────────────────────────────────────
 
@@ -176,18 +180,8 @@ module _ (tb : Table) (e : Event) (log : List ℕ) (t : Id) (p : ℕ) (tb₁ : T
     pub hopes : (r : Id) → Some (Hopes r) hs → Some (Hopes r) hs₁
     pub prepares : (r : Id) → Prepares t r x → Some (Hopes r) hs₁
 
-  committed-number : (x : Enlistment) → committedOf x .number ≡ x .number
-  unfolding committedOf
-  committed-number x = by-cases (λ (y : Enlistment). y .number ≡ x .number) (isIn enlistment.prepared x) _ _ (λ _. refl) (λ _.
-      by-cases (λ (y : Enlistment). y .number ≡ x .number) (isIn enlistment.preparedLost x) (inState enlistment.failedToNotify x) x (λ _. refl) (λ _. refl))
-
-  committed-kept : (x : Enlistment) → (committedOf x .holder ≡ x .holder) × (committedOf x .kind ≡ x .kind)
-  unfolding committedOf
-  committed-kept x = by-cases (λ (y : Enlistment). (y .holder ≡ x .holder) × (y .kind ≡ x .kind)) (isIn enlistment.prepared x) _ _ (λ _. (refl, refl)) (λ _.
-      by-cases (λ (y : Enlistment). (y .holder ≡ x .holder) × (y .kind ≡ x .kind)) (isIn enlistment.preparedLost x) (inState enlistment.failedToNotify x) x (λ _. (refl, refl)) (λ _. (refl, refl)))
-
   keeps-committed : Keeps committedOf
-  keeps-committed x = inl (committed-kept x .0)
+  keeps-committed x = inl (committed-key x .holder)
 
   commit-waits : (r : Id) (x : Enlistment) → Hopes r x → Waits r (committedOf x)
   unfolding committedOf
@@ -196,32 +190,20 @@ module _ (tb : Table) (e : Event) (log : List ℕ) (t : Id) (p : ℕ) (tb₁ : T
       absurd (by-either (λ q. eqb-false (x .state) enlistment.prepared b q) (λ q. eqb-false (x .state) enlistment.preparedLost c q) (h .2))))
 
   empty-some : (hs : List Enlistment) (P : Enlistment → Type 0) → eqb (length hs) 0 ≡ true → Some P hs → ⊥
-  empty-some [] P e s = List·Memᴰ·not-nil (s .there)
-  empty-some (x ∷ hs) P e s = omega (arith, eqb-true (length (x ∷ hs)) 0 e)
+  empty-some hs P e s = omega (arith, eqb-true (length hs) 0 e, member-some hs (s .there))
 
   commit-not-aborted : Only notAborted (commitSignals hs₁)
   unfolding commitSignals
-  commit-not-aborted = only-both notAborted (toEach name.Commit (filter (isIn enlistment.prepared) hs₁)) (toApp name.AppCommitted)
+  commit-not-aborted = each-both (toEach name.Commit (filter (isIn enlistment.prepared) hs₁)) (toApp name.AppCommitted)
       (only-each notAborted name.Commit (filter (isIn enlistment.prepared) hs₁) refl) (only-one notAborted name.AppCommitted 0 refl)
 
   commit-home : Addressed tb e (commitSignals hs₁)
   unfolding commitSignals
-  commit-home = addressed-both tb e (toEach name.Commit (filter (isIn enlistment.prepared) hs₁)) (toApp name.AppCommitted)
+  commit-home = each-both (toEach name.Commit (filter (isIn enlistment.prepared) hs₁)) (toApp name.AppCommitted)
       (addressed-each tb e name.Commit (filter (isIn enlistment.prepared) hs₁) (λ x m. home x (of-filter (isIn enlistment.prepared) hs₁ m .0))) (addressed-one tb e name.AppCommitted 0 (inl refl))
 
   entries-valid : (es : List Enlistment) → Each (λ x. (length (x .rm .0) ≡ identifierSize) × (x .number ≤ largestNumber)) es → Each ValidEntry (map entryOf es)
   entries-valid es f = each-map entryOf ValidEntry es (λ x m. record { rm-size = f x m .0; number-small = f x m .1 })
-
-  entries-size : (es : List Entry) → Each ValidEntry es → length (entriesBytes es) ≡ entrySize * length es
-  unfolding entriesBytes
-  entries-size [] v = refl
-  entries-size (x ∷ es) v = rw (length-append (entryBytes x) (entriesBytes es), length-append (x .rm) (low4 (x .number)), each-head v .rm-size, entries-size es (each-rest v)) (omega arith)
-
-  no-durable-of : (hs : List Enlistment) → any isDurable hs ≡ false → NoDurable hs
-  no-durable-of hs n x m k = no-clash (isDurable x) (eq-eqb (x .kind) kind.durable k) (none-each isDurable hs n x m)
-
-  some-durable-of : (hs : List Enlistment) → any isDurable hs ≡ true → Some Durable hs
-  some-durable-of hs d = let s : Some (λ x. isDurable x ≡ true) hs = any-some isDurable hs d in record { it = s .it; there = s .there; holds = eqb-true (s .it .kind) kind.durable (s .holds) }
 
   -- one name is not another
   not-same : (u : Id) → (u ≡ t → ⊥) → sameBytes t u ≡ false
@@ -239,15 +221,15 @@ module _ (tb : Table) (e : Event) (log : List ℕ) (t : Id) (p : ℕ) (tb₁ : T
 
     decide-none : (stateAt p tb₁ ≡ transaction.committing → ⊥) → eqb (length hs₁) 0 ≡ true → Here (endCommitted p tb₁ log)
     unfolding endCommitted
-    decide-none not-committing empty = rw (unlogged-end p tb₁ log not-committing) (unlogged (emptied p tb₁) (toApp name.AppCommitted) (addressed-one tb e name.AppCommitted 0 (inl refl)) (used-emptied p tb₁) (ends-for t p tb₁ (z .stands))
-        (λ h f l a. rw (shown, view-ends t p tb₁ (z .stands)) (decide-empty refl (v .calm) (none-aborted t tb e (toApp name.AppCommitted) (only-one notAborted name.AppCommitted 0 refl)) all-voted (λ r w. empty-some hs₁ (Hopes r) empty (hoping r w)))))
+    decide-none not-committing empty = own-end-saying name.AppCommitted not-committing
+        (λ h f l a. rw shown (decide-empty refl (v .calm) (none-aborted t tb e (toApp name.AppCommitted) (only-one notAborted name.AppCommitted 0 refl)) all-voted (λ r w. empty-some hs₁ (Hopes r) empty (hoping r w))))
 
     decide-volatile : any isDurable hs₁ ≡ false → Here (saying (commitSignals hs₁) (quietly (committing p tb₁) log))
     decide-volatile no-durable = unlogged (committing p tb₁) (commitSignals hs₁) commit-home (used-goes p transaction.committing committedOf tb₁) (λ u n. goes-other t p tb₁ (z .stands) transaction.committing committedOf u keeps-committed n)
         (λ h f l a. rw (shown, view-goes t p tb₁ (z .stands) transaction.committing committedOf (λ q. omega arith))
         (decide-unlogged refl (v .calm) (none-aborted t tb e (commitSignals hs₁) commit-not-aborted) all-voted
-        (λ r w. let y : Some (Hopes r) hs₁ = hoping r w in no-durable-of hs₁ no-durable (y .it) (y .there) (y .holds .0))
-        (λ x m k. let c : Some (λ y. x ≡ committedOf y) hs₁ = held-came p committedOf tb₁ m in no-durable-of hs₁ no-durable (c .it) (c .there) (sym (committed-kept (c .it) .1) ∙ sym (ap (λ (y : Enlistment). y .kind) (c .holds)) ∙ k))))
+        (λ r w. let y : Some (Hopes r) hs₁ = hoping r w in none-durable hs₁ no-durable (y .it) (y .there) (y .holds .0))
+        (λ x m k. let c : Some (λ y. x ≡ committedOf y) hs₁ = held-came p committedOf tb₁ m in none-durable hs₁ no-durable (c .it) (c .there) (sym (committed-key (c .it) .kind) ∙ sym (ap (λ (y : Enlistment). y .kind) (c .holds)) ∙ k))))
 
     module _ (d : any isDurable hs₁ ≡ true) (fits : tb₁ .used + commitSize (length (filter isDurable hs₁)) + forgetSize * (1 + openCount tb₁) ≤ length log) where
       ds : List Enlistment
@@ -257,11 +239,7 @@ module _ (tb : Table) (e : Event) (log : List ℕ) (t : Id) (p : ℕ) (tb₁ : T
       entries = map entryOf ds
 
       durables : Some Durable hs₁
-      durables = some-durable-of hs₁ d
-
-      positive : {x : Enlistment} (l : List Enlistment) → x ∈ l → 0 < length l
-      positive [] m = absurd (List·Memᴰ·not-nil m)
-      positive (y ∷ l) m = omega arith
+      durables = any-durable hs₁ d
 
       as-many : length entries ≡ length (filter isDurable hs₁)
       unfolding entries ds
@@ -272,7 +250,7 @@ module _ (tb : Table) (e : Event) (log : List ℕ) (t : Id) (p : ℕ) (tb₁ : T
       entries-ok = entries-valid ds (λ x m. z .sized x (of-filter isDurable hs₁ (of-sort byNumber (filter isDurable hs₁) m) .0))
 
       ok : Valid (Record.commit t entries)
-      ok = valid-commit {es = entries} id-size (rw as-many (positive (filter isDurable hs₁) (in-filter isDurable hs₁ (durables .there) (eq-eqb (durables .it .kind) kind.durable (durables .holds)))))
+      ok = valid-commit {es = entries} id-size (rw as-many (member-some (filter isDurable hs₁) (in-filter isDurable hs₁ (durables .there) (eq-eqb (durables .it .kind) kind.durable (durables .holds)))))
           (rw as-many (omega (arith, length-filter isDurable hs₁, z .few))) entries-ok
 
       listed : (q : Id) → Some (Hopes q) hs₁ → q ∈ managersOf entries
@@ -284,12 +262,12 @@ module _ (tb : Table) (e : Event) (log : List ℕ) (t : Id) (p : ℕ) (tb₁ : T
       entered d m = go (of-map entryOf ds m)
         where
           go : Some (λ x. entryOf x ≡ d) ds → Some (λ x. x .number ≡ d .number) (held p (changeHeld p committedOf tb₁))
-          go w = held-own (λ x. x .number ≡ d .number) (λ x. x .number ≡ d .number) p committedOf tb₁ (λ x _ q. (committed-number x ∙ q, committed-kept x .0))
+          go w = held-own (λ x. x .number ≡ d .number) (λ x. x .number ≡ d .number) p committedOf tb₁ (λ x _ q. (committed-key x .number ∙ q, committed-key x .holder))
               (record { it = w .it; there = of-filter isDurable hs₁ (of-sort byNumber (filter isDurable hs₁) (w .there)) .0; holds = ap (λ (y : Entry). y .number) (w .holds) })
 
       size : length (recordBytes (Record.commit t entries)) ≡ commitSize (length (filter isDurable hs₁))
       unfolding recordBytes
-      size = rw (length-append t (entriesBytes entries), id-size, entries-size entries entries-ok, as-many) (omega arith)
+      size = rw (length-append t (entriesBytes entries), id-size, entries-length entries (λ d m. entries-ok d m .rm-size), as-many) (omega arith)
 
       undecided : stateAt p tb ≡ transaction.committing → ⊥
       undecided q = let c : look (stateAt p tb) (held p tb) ≡ voting hs = sym (view-stands t p tb (z .before)) ∙ shown in never (ap (λ k. look k (held p tb)) (sym q) ∙ c)
@@ -323,7 +301,7 @@ module _ (tb : Table) (e : Event) (log : List ℕ) (t : Id) (p : ℕ) (tb₁ : T
       unfolding append commitRecord useMore story next allBytes entries ds
       decide-durable = rw own-id (record {
         records = Record.commit t entries ∷ [];
-        valid = each-more ok (each-nothing Valid);
+        valid = each-one Valid ok;
         bytes = ap (λ n. take (n + length bs) (written n bs log)) (used-goes p transaction.committing committedOf tb₁) ∙ written-used (tb₁ .used) bs log (omega (arith, size, fits)) ∙ ap₂ (λ n l. take n log ++ l) (z .used) (sym (append-nil bs));
         other-story = λ u n s. rw (not-same u n) refl;
         other-view = λ u n. view-more u (length bs) (committing p tb₁) ∙ goes-other t p tb₁ (z .stands) transaction.committing committedOf u keeps-committed n ∙ z .other-view u n;
@@ -331,8 +309,8 @@ module _ (tb : Table) (e : Event) (log : List ℕ) (t : Id) (p : ℕ) (tb₁ : T
         addressed = commit-home;
         move = λ h f l a. rw (shown, view-more t (length bs) (committing p tb₁) ∙ view-goes t p tb₁ (z .stands) transaction.committing committedOf (λ q. omega arith))
             (decide-logged {rs = entries} (rw (same-refl t, rw shown at a) refl) (v .calm) (none-aborted t tb e (commitSignals hs₁) commit-not-aborted) all-voted
-            (λ q w. (held-own (Hopes q) (Waits q) p committedOf tb₁ (λ x _ y. (commit-waits q x y, committed-kept x .0)) (hoping q w), listed q (hoping q w)))
-            (held-own Durable Durable p committedOf tb₁ (λ x _ k. (committed-kept x .1 ∙ k, committed-kept x .0)) durables)
+            (λ q w. (held-own (Hopes q) (Waits q) p committedOf tb₁ (λ x _ y. (commit-waits q x y, committed-key x .holder)) (hoping q w), listed q (hoping q w)))
+            (held-own Durable Durable p committedOf tb₁ (λ x _ k. (committed-key x .kind ∙ k, committed-key x .holder)) durables)
             entered);
       })
         where
@@ -368,36 +346,32 @@ module _ (tb : Table) (e : Event) (log : List ℕ) (t : Id) (p : ℕ) (tb₁ : T
     pub numbers : (n : ℕ) → Some (λ y. y .number ≡ n) hs → Some (λ y. y .number ≡ n) hs₁
 
   module _ (hs : List Enlistment) (shown : viewOf t tb ≡ alone.committing hs) (state : stateAt p tb₁ ≡ transaction.committing) (w : Told hs (noteOf tb e)) (id-size : length t ≡ identifierSize) where
-    not-done : (r : Id) (x : Enlistment) → Waits r x → x .state ≡ enlistment.done → ⊥
-    not-done r x q d = by-either (λ y. omega arith) (λ y. omega arith) (q .2)
-
     closing : all isDone hs₁ ≡ true → (r : Id) → Some (Waits r) hs₁ ⊎ Closes t r (noteOf tb e) → Closes t r (noteOf tb e)
-    closing all-done r (inl y) = absurd (not-done r (y .it) (y .holds) (eqb-true (y .it .state) enlistment.done (all-each isDone hs₁ all-done (y .it) (y .there))))
+    closing all-done r (inl y) = absurd (waits-undone (y .it) (y .holds) (eqb-true (y .it .state) enlistment.done (all-each isDone hs₁ all-done (y .it) (y .there))))
     closing all-done r (inr c) = c
 
-    closes : (l : Story) → Agrees (alone.committing hs) l → Some Durable hs₁ → onForget l ≡ closed
-    closes l (inl (rs, q, y, n)) d = rw q refl
-    closes l (inr (q, y)) d = absurd (w .no-durable y (d .it) (d .there) (d .holds))
+    some-left : any isDurable hs₁ ≡ true → NoDurable hs → ⊥
+    some-left d y = let s : Some Durable hs₁ = any-durable hs₁ d in w .no-durable y (s .it) (s .there) (s .holds)
 
     forget-judged : {used : ℕ} → any isDurable hs₁ ≡ true → used ≡ tb .used + forgetSize → Judged tb log used (Record.forget t ∷ [])
     unfolding allFitting openAfter afterRecord
     forget-judged {used} d e = record { judged = λ os r. (rw (forget-fit t os (live-nonzero tb (r .sound) t p (z .before)) (opened os r)) refl, omega (arith, e, r .room, one-forgotten t os (opened os r))) }
       where
         opened : (os : List Open) → Ready tb log os → any (isOpenAs t) os ≡ true
-        opened os r = told-open tb log os r t hs shown (λ y. w .no-durable y (some-durable-of hs₁ d .it) (some-durable-of hs₁ d .there) (some-durable-of hs₁ d .holds))
+        opened os r = told-open tb log os r t hs shown (some-left d)
 
     end-durable : any isDurable hs₁ ≡ true → all isDone hs₁ ≡ true → tb₁ .used + forgetSize ≤ length log → Here (append (Record.forget (idAt p tb₁)) (emptied p tb₁) log)
     unfolding append useMore story next allBytes recordBytes
     end-durable d all-done fits = rw own-id (record {
       records = Record.forget t ∷ [];
-      valid = each-more (valid-forget id-size) (each-nothing Valid);
+      valid = each-one Valid (valid-forget id-size);
       bytes = ap (λ n. take (n + length bs) (written n bs log)) (used-emptied p tb₁) ∙ written-used (tb₁ .used) bs log (omega (arith, fits, size)) ∙ ap₂ (λ n l. take n log ++ l) (z .used) (sym (append-nil bs));
       other-story = λ u n s. rw (not-same u n) refl;
       other-view = λ u n. view-more u (length bs) (emptied p tb₁) ∙ ends-for t p tb₁ (z .stands) u n ∙ z .other-view u n;
       judged = forget-judged d (ap (λ n. n + length bs) (used-emptied p tb₁ ∙ z .used) ∙ ap (λ n. tb .used + n) size);
       addressed = addressed-nothing tb e;
       move = λ h f l a. rw (same-refl t, shown, view-more t (length bs) (emptied p tb₁) ∙ view-ends t p tb₁ (z .stands))
-          (end-logged (closes l (rw shown at a) (some-durable-of hs₁ d)) (w .calm) (quiet t tb e [] (only-nothing notCommitted) (only-nothing notAborted)) (λ r y. closing all-done r (w .waits r y)));
+          (end-logged (forgotten hs l (rw shown at a) (some-left d)) (w .calm) (quiet t tb e [] (only-nothing notCommitted) (only-nothing notAborted)) (λ r y. closing all-done r (w .waits r y)));
     })
       where
         bs : List ℕ
@@ -409,7 +383,7 @@ module _ (tb : Table) (e : Event) (log : List ℕ) (t : Id) (p : ℕ) (tb₁ : T
     end-volatile : any isDurable hs₁ ≡ false → Here (quietly (emptied p tb₁) log)
     end-volatile n = unlogged (emptied p tb₁) [] (addressed-nothing tb e) (used-emptied p tb₁) (ends-for t p tb₁ (z .stands))
         (λ h f l a. rw (shown, view-ends t p tb₁ (z .stands)) (end-unlogged refl (w .calm) (quiet t tb e [] (only-nothing notCommitted) (only-nothing notAborted))
-        (λ x m k. let d : Some Durable hs₁ = w .durable (record { it = x; there = m; holds = k }) in no-durable-of hs₁ n (d .it) (d .there) (d .holds))))
+        (λ x m k. let d : Some Durable hs₁ = w .durable (record { it = x; there = m; holds = k }) in none-durable hs₁ n (d .it) (d .there) (d .holds))))
 
     end-waits : viewOf t tb₁ ≡ alone.committing hs₁ → Here (quietly tb₁ log)
     end-waits shown-after = unlogged tb₁ [] (addressed-nothing tb e) refl (λ u n. refl)
@@ -430,8 +404,8 @@ module _ (tb : Table) (e : Event) (log : List ℕ) (t : Id) (p : ℕ) (tb₁ : T
       (joined : Each (λ x. Some (Unasked (x .number) (x .rm .0) (x .kind)) hs) hs₁) where
     start-none : (stateAt p tb₁ ≡ transaction.committing → ⊥) → eqb (length hs₁) 0 ≡ true → Here (endCommitted p tb₁ log)
     unfolding endCommitted
-    start-none not-committing empty = rw (unlogged-end p tb₁ log not-committing) (unlogged (emptied p tb₁) (toApp name.AppCommitted) (addressed-one tb e name.AppCommitted 0 (inl refl)) (used-emptied p tb₁) (ends-for t p tb₁ (z .stands))
-        (λ h f l a. rw (shown, view-ends t p tb₁ (z .stands)) (commit-empty refl calm (none-aborted t tb e (toApp name.AppCommitted) (only-one notAborted name.AppCommitted 0 refl)) (λ n r k w. empty-some hs₁ (Unasked n r k) empty (unasked n r k w)))))
+    start-none not-committing empty = own-end-saying name.AppCommitted not-committing
+        (λ h f l a. rw shown (commit-empty refl calm (none-aborted t tb e (toApp name.AppCommitted) (only-one notAborted name.AppCommitted 0 refl)) (λ n r k w. empty-some hs₁ (Unasked n r k) empty (unasked n r k w))))
 
     start-one : (es : List Enlistment) → hs₁ ≡ es → eqb (length es) 1 ≡ true → Here (saying (toEach name.Single hs₁) (quietly (goTo p transaction.singlePhase (changeHeld p (inState enlistment.onePhase) tb₁)) log))
     unfolding messageOf toEach sortBy insertBy
@@ -446,7 +420,7 @@ module _ (tb : Table) (e : Event) (log : List ℕ) (t : Id) (p : ℕ) (tb₁ : T
         (there q)))
       where
         only : (y : Enlistment) → y ∈ hs₁ → y ≡ x
-        only y m = by-either (λ r. r) (λ r. absurd (List·Memᴰ·not-nil r)) (List·Memᴰ·cases-cons (rw q at m))
+        only y m = in-one (rw q at m)
 
         same : (n : ℕ) (r : Id) (k : ℕ) → Some (Unasked n r k) hs₁ → (n ≡ x .number) × (r ≡ x .rm .0) × (k ≡ x .kind)
         same n r k y = let i : Is n r k x = rw (only (y .it) (y .there)) at (y .holds .0) in (sym (i .0), sym (i .1), sym (i .2))

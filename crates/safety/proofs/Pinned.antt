@@ -15,11 +15,12 @@ use Rattle.rules.specs.Identifiers.{sameBytes}
 use Rattle.rules.specs.Log.{header}
 use Rattle.rules.specs.Signals.{Committed, Aborted}
 use Rattle.rules.proofs.Identifiers.{same-refl}
+use Rattle.rules.specs.Words.{id, begin, commit, rollback, vote, ack, ask}
 use Rattle.safety.specs.World.{Note, Issued, World, empty}
 use Rattle.safety.specs.Host.{Host, now}
 use Rattle.safety.specs.Run.{Run, start, step, store, leave, restart}
 use Rattle.safety.specs.Premises.{Breaks, beginsAgain, asksAnyTime, handsAny, givesAny, losesBytes, sendsAtOnce, doesNotTrim}
-use Rattle.safety.specs.Words.{id, begin, enlist, commit, rollback, votes, ack, ask, spare}
+use Rattle.safety.specs.Words.{enlist, spare}
 use Rattle.safety.proofs.Played.{stepped, restarted, does, restarts, issued, record-of-7, commit-of-7, decides, playing}
 
 -- ── both messages of 7 have left ────────────────────────────────────────────────────────────────────────────────
@@ -133,9 +134,9 @@ pub not-trimmed : Breaks doesNotTrim
 unfolding playing record-of-8 large-of-7 begins-7
 not-trimmed = breaks (leave (does (restarts (leave (store (does (does (does (does (restarts (store (does (does (does (does (does (does (restarts start (spare, refl, refl))
     (begin 8) (refl, refl) (λ m. List·Memᴰ·not-nil m)) (enlist 8 1 21) (refl, refl) tt) (enlist 8 2 22) (refl, refl) tt) (commit 8) (refl, refl) tt)
-    (votes 1 vote.Prepared) (refl, refl) tt) (votes 2 vote.Prepared) (refl, refl) tt)
+    (vote 1 vote.Prepared) (refl, refl) tt) (vote 2 vote.Prepared) (refl, refl) tt)
     (header ++ take 20 record-of-8) (header ++ take 20 record-of-8, drop 20 record-of-8, 0, refl, refl)) (spare, refl, refl))
-    (begin 7) (refl, refl) (not-begun _ refl)) (enlist 7 3000000000 23) (refl, refl) tt) (commit 7) (refl, refl) tt) (votes 3000000000 vote.Prepared) (refl, refl) tt)
+    (begin 7) (refl, refl) (not-begun _ refl)) (enlist 7 3000000000 23) (refl, refl) tt) (commit 7) (refl, refl) tt) (vote 3000000000 vote.Prepared) (refl, refl) tt)
     (header ++ take 20 record-of-8 ++ large-of-7) (large-of-7, [], 8, refl, refl)) committed (List·Memᴰ·head refl) (header ++ take 20 record-of-8, [], refl)) (spare, refl, refl))
     (ask 7 23) (refl, refl) (now (3000000000, refl))) aborted (List·Memᴰ·head refl) (header, [], refl)) aborted committed refl (refl, inr (inr refl)) (refl, inl refl)
   where

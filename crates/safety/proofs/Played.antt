@@ -10,10 +10,11 @@ use Rattle.rules.specs.Log.{header}
 use Rattle.rules.specs.Step.{stepOf}
 use Rattle.rules.specs.Restart.{restartOf}
 use Rattle.rules.proofs.Computing.{computing}
+use Rattle.rules.specs.Words.{id, begin, commit, vote}
 use Rattle.safety.specs.World.{Issued, World, told, messageOf, empty, afterStep, withDisk, afterLeaving, afterRestart}
 use Rattle.safety.specs.Host.{Host, Makes}
 use Rattle.safety.specs.Run.{Run, start, step, restart}
-use Rattle.safety.specs.Words.{id, begin, enlist, commit, votes, spare}
+use Rattle.safety.specs.Words.{enlist, spare}
 
 -- ── calls ───────────────────────────────────────────────────────────────────────────────────────────────────────
 
@@ -45,11 +46,11 @@ commit-of-7 = issued (header ++ record-of-7) name.Commit 1
 -- ── 7 is decided, and nothing is stored yet ─────────────────────────────────────────────────────────────────────
 
 unfoldable pub decided : World
-decided = stepped (stepped (stepped (stepped (restarted empty) (begin 7)) (enlist 7 1 21)) (commit 7)) (votes 1 vote.Prepared)
+decided = stepped (stepped (stepped (stepped (restarted empty) (begin 7)) (enlist 7 1 21)) (commit 7)) (vote 1 vote.Prepared)
 
 pub decides : {host : Host} → ((w : World) → host .hands w (w .table) (w .log)) → host .gives empty spare 0 → host .begins [] (id 7) → Run host decided
 unfolding decided restarted empty afterRestart
-decides h g b = does (does (does (does (restarts start g) (begin 7) (h _) b) (enlist 7 1 21) (h _) tt) (commit 7) (h _) tt) (votes 1 vote.Prepared) (h _) tt
+decides h g b = does (does (does (does (restarts start g) (begin 7) (h _) b) (enlist 7 1 21) (h _) tt) (commit 7) (h _) tt) (vote 1 vote.Prepared) (h _) tt
 
 -- ── one name for what a sample run computes with ────────────────────────────────────────────────────────────────
 

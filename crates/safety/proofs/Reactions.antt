@@ -6,13 +6,13 @@ use native.Mathlib.Decide.{ℕ-discrete}
 use mathlib.Core.Path.{_≡_, refl, sym, _∙_, ap, subst}
 use mathlib.Core.Logic.{_⊎_, inl, inr}
 use mathlib.Core.Bool.{true, false, _||_, true≢false, _&&_}
-use mathlib.Core.List.{List, [], _∷_, map, List·Memᴰ·not-nil}
+use mathlib.Core.List.{List, [], map}
 use lib.ListN.{length}
 use lib.Dec.{eqb}
 use borrow.Author.Tests.{eqb-true, eqb-false, eq-eqb, ne-eqb}
 use Rattle.lists.specs.Members.{_∈_, Some, Apart}
 use Rattle.lists.specs.Lists.{any, filter}
-use Rattle.lists.proofs.Tests.{by-test, by-either, no-clash, and-true, true-and, true-or, not-true, false-not, any-some, some-any, none-each, filter-filter}
+use Rattle.lists.proofs.Tests.{by-cases, by-test, by-either, no-clash, and-true, true-and, true-or, none-each, filter-filter, member-some}
 use Rattle.lists.proofs.Places.{in-places}
 use Rattle.lists.proofs.Apart.{apart-narrower, apart-changed}
 use Rattle.rules.specs.declared.Enlistment.{Enlistment}
@@ -36,25 +36,27 @@ use Rattle.rules.specs.TransactionState as transaction
 use Rattle.rules.specs.EnlistmentState as enlistment
 use Rattle.rules.specs.Sizes.{identifierSize, largestNumber}
 use Rattle.rules.specs.Identifiers.{Id}
-use Rattle.rules.specs.Table.{isHeld, heldBy, onHeld, noTransaction, transactionAt, stateAt, held, numbered, isNumbered, isPhaseZero, durableKind, isDurable, isIn, inState, freed, onNumber, changeHeld, changeNumber, emptied}
+use Rattle.rules.specs.Table.{isHeld, heldBy, onHeld, noTransaction, transactionAt, stateAt, held, numbered, isNumbered, isPhaseZero, durableKind, isDurable, isIn, inState, freed, onNumber, changeHeld, changeNumber, placeNamed}
 use Rattle.rules.specs.Sound.{Sound, In, Durable, PhaseZero, isOpen, openPlaces}
 use Rattle.rules.specs.Log.{forgetSize}
 use Rattle.rules.specs.Signals.{toApp}
-use Rattle.rules.specs.Events.{Outcome, quietly, saying, toVote, toReply, toLost, reactionOf, follow, react}
+use Rattle.rules.specs.Events.{quietly, toVote, toReply, toLost, reactionOf, follow, react}
 use Rattle.rules.specs.Refusals.{isRefused}
 use Rattle.rules.proofs.Frames.{of-held, held-came, held-own, held-shorter, named-is, named-other, named-place, not-zero, Stands, stands-place}
-use Rattle.rules.proofs.Parts.{used-emptied}
 use Rattle.safety.specs.World.{Note, ownerOf, told, noteOf, messageOf, subjectOf}
 use Rattle.safety.specs.Host.{Prepares, Closes}
 use Rattle.safety.specs.Demand3.{Votes, Yes}
 use Rattle.safety.proofs.Alone as alone
-use Rattle.safety.proofs.Alone.{Story, Hopes, Waits, Is, Unasked, Preparing, NoDurable}
+use Rattle.safety.proofs.Alone.{Story, Hopes, Waits, Is, Unasked, Preparing, NoDurable, durable-any, any-durable}
 use Rattle.safety.proofs.Move.{Calm, calm-note, nothing-calm, NotEnlisted, VoteOf, Doomed, from-early, from-voting, from-single, to-out, Move, gather, vote-on, abort, replied, told-on}
-use Rattle.safety.proofs.Top.{Agrees}
-use Rattle.safety.proofs.View.{viewOf, look, view-in, view-changes, view-held-other, view-ends, state-held, stands-held}
-use Rattle.safety.proofs.Given.{id-size, owner-held, Row, in-active, in-zero, in-voting, in-single, in-commit, in-abort, Named}
-use Rattle.safety.proofs.Messages.{notCommitted, notAborted, only-nothing, only-one, Owned, addressed-nothing, addressed-one, none-committed, none-aborted, quiet}
-use Rattle.safety.proofs.Own.{by-cases, Own, Touched, unlogged, unlogged-end, ends-for, own-abort, Voted, own-decide, own-end-aborting, own-end-committing, own-start}
+use Rattle.safety.proofs.View.{viewOf, look, view-in, view-changes, view-held-other, state-held, stands-held}
+use Rattle.safety.proofs.Given.{owner-held, Row, in-active, in-zero, in-voting, in-single, in-commit, in-abort, Named}
+use Rattle.safety.proofs.Messages.{notCommitted, notAborted, only-nothing, only-one, Owned, addressed-nothing, none-committed, none-aborted, quiet}
+use Rattle.safety.proofs.Own.{Own, Touched, unlogged, own-abort, Voted, own-decide, own-end-aborting, own-end-committing, own-start, own-end-saying}
+use Rattle.rules.proofs.Kept.{SameKey, key-same, key-either, true-live, by-held, sound-kept}
+use Rattle.rules.proofs.Put.{member-held}
+use Rattle.rules.proofs.Preserved.{used-fits}
+use Rattle.rules.proofs.Parts.{id-length}
 
 -- ── the state of the transaction, by that of its enlistment ─────────────────────────────────────────────────────
 
@@ -117,32 +119,29 @@ module _ (s : ℕ) (x : Enlistment) where
 
 module _ (tb : Table) (s : Sound tb) (t : Id) (p : ℕ) (at : Stands t p tb) where
   pub live : (transactionAt p tb .state ≡ 0 → ⊥)
-  live = eqb-false (stateAt p tb) 0 (not-true (eqb (stateAt p tb) 0) (named-is t (transactionAt p tb) (at .here) .0))
+  live = true-live (transactionAt p tb) (named-is t (transactionAt p tb) (at .here) .0)
 
-  held-live : {x : Enlistment} → x ∈ held p tb → x .holder ≡ 0 → ⊥
-  held-live m z = not-zero (named-place t p tb (at .here)) (sym (of-held p tb m .1) ∙ z)
+  some-place : p ≡ 0 → ⊥
+  some-place = not-zero (named-place t p tb (at .here))
 
   pub held-sized : {x : Enlistment} → x ∈ held p tb → (length (x .rm .0) ≡ identifierSize) × (x .number ≤ largestNumber)
-  held-sized {x} m = (s .manager-identifiers x (of-held p tb m .0) (held-live m) .0, s .numbers x (of-held p tb m .0) (held-live m) .1)
+  held-sized {x} m = (s .manager-identifiers x (of-held p tb m .0) (member-held p tb some-place m) .0, s .numbers x (of-held p tb m .0) (member-held p tb some-place m) .1)
 
   -- who is held votes, but for P
   pub held-votes : {x : Enlistment} → x ∈ held p tb → isPhaseZero x ≡ false → Votes (x .kind)
-  held-votes {x} m n = by-either (λ q. absurd (eqb-false (x .kind) kind.phaseZero n q)) (λ q. q) (s .kinds x (of-held p tb m .0) (held-live m) .0)
+  held-votes {x} m n = by-either (λ q. absurd (eqb-false (x .kind) kind.phaseZero n q)) (λ q. q) (s .kinds x (of-held p tb m .0) (member-held p tb some-place m) .0)
 
   pub own-id-size : length t ≡ identifierSize
-  own-id-size = ap length (sym (named-is t (transactionAt p tb) (at .here) .1)) ∙ id-size tb s p (named-is t (transactionAt p tb) (at .here) .0)
-
-  is-held : (x : Enlistment) → heldBy p x ≡ true → isHeld x ≡ true
-  is-held x h = false-not (ne-eqb (x .holder) 0 (λ z. not-zero (named-place t p tb (at .here)) (sym (eqb-true (x .holder) p h) ∙ z)))
+  own-id-size = ap length (sym (named-is t (transactionAt p tb) (at .here) .1)) ∙ id-length p tb (sound-kept s) live
 
   numbers-apart : Apart (λ x y. x .number ≡ y .number) (held p tb)
   unfolding held
-  numbers-apart = apart-narrower isHeld (heldBy p) is-held (λ x y a b r. r) (tb .enlistments) (s .numbers-differ)
+  numbers-apart = apart-narrower isHeld (heldBy p) (by-held p some-place) (λ x y a b r. r) (tb .enlistments) (s .numbers-differ)
 
   managers-apart : Apart (λ x y. x .rm .0 ≡ y .rm .0) (filter isDurable (held p tb))
   unfolding held
   managers-apart = rw (filter-filter isDurable (heldBy p) (tb .enlistments)) (apart-narrower (λ x. isHeld x && isDurable x) (λ x. heldBy p x && isDurable x)
-      (λ x h. and-true (is-held x (true-and (heldBy p x) (isDurable x) h .0)) (true-and (heldBy p x) (isDurable x) h .1))
+      (λ x h. and-true (by-held p some-place x (true-and (heldBy p x) (isDurable x) h .0)) (true-and (heldBy p x) (isDurable x) h .1))
       (λ x y a b r. (eqb-true (x .holder) p (true-and (heldBy p x) (isDurable x) a .0) ∙ sym (eqb-true (y .holder) p (true-and (heldBy p y) (isDurable y) b .0)), r))
       (tb .enlistments) (rw (filter-filter isDurable isHeld (tb .enlistments)) at (s .managers-differ)))
 
@@ -161,20 +160,13 @@ module _ (tb : Table) (s : Sound tb) (t : Id) (p : ℕ) (at : Stands t p tb) whe
     managers-apart = managers-apart;
   }
 
-  pub low : tb .used ≤ tb .capacity
-  low = omega (arith, s .room)
-
   -- where it is open, there is room for its forget record
   pub room-open : (log : List ℕ) → length log ≡ tb .capacity → stateAt p tb ≡ transaction.committing → Some Durable (held p tb) → tb .used + forgetSize ≤ length log
   unfolding openPlaces
-  room-open log full state d = rw full (omega (arith, s .room, positive (openPlaces tb) (in-places (λ q x. isOpen (x .state) (held q tb)) noTransaction (tb .transactions) (named-place t p tb (at .here)) is-open)))
+  room-open log full state d = rw full (omega (arith, s .room, member-some (openPlaces tb) (in-places (λ q x. isOpen (x .state) (held q tb)) noTransaction (tb .transactions) (named-place t p tb (at .here)) is-open)))
     where
-      positive : (l : List ℕ) → p ∈ l → 1 ≤ length l
-      positive [] m = absurd (List·Memᴰ·not-nil m)
-      positive (y ∷ l) m = omega arith
-
       is-open : isOpen (stateAt p tb) (held p tb) ≡ true
-      is-open = rw (state, some-any isDurable (held p tb) (record { it = d .it; there = d .there; holds = eq-eqb (d .it .kind) kind.durable (d .holds) })) refl
+      is-open = rw (state, durable-any (held p tb) d) refl
 
 -- ── one enlistment of the transaction changes ───────────────────────────────────────────────────────────────────
 
@@ -236,14 +228,14 @@ module _ (tb : Table) (log : List ℕ) (n : ℕ) (s : Sound tb) (full : length l
   numbers-apart-after : (f : Enlistment → Enlistment) → Mild f → Apart (λ a b. a .number ≡ b .number) (held p (changed f))
   unfolding held changeHeld
   numbers-apart-after f mild = apart-changed isHeld (heldBy p) (onHeld p (onNumber n f))
-      (λ e h. is-held tb s t p (named .stands) e (eq-eqb (e .holder) p (kept-here f mild e h .0)))
+      (λ e h. by-held p (some-place tb s t p (named .stands)) e (eq-eqb (e .holder) p (kept-here f mild e h .0)))
       (λ a b h k r. sym (kept-here f mild a h .2) ∙ r ∙ kept-here f mild b k .2)
       (tb .enlistments) (s .numbers-differ)
 
   managers-apart-after : (f : Enlistment → Enlistment) → Mild f → Apart (λ a b. a .rm .0 ≡ b .rm .0) (filter isDurable (held p (changed f)))
   unfolding held changeHeld
   managers-apart-after f mild = rw (filter-filter isDurable (heldBy p) (map g (tb .enlistments))) (apart-changed (λ e. isHeld e && isDurable e) (λ e. heldBy p e && isDurable e) g
-      (λ e h. and-true (is-held tb s t p (named .stands) e (eq-eqb (e .holder) p (k e h .0))) (ap (λ k. eqb k kind.durable) (sym (k e h .3)) ∙ true-and (heldBy p (g e)) (isDurable (g e)) h .1))
+      (λ e h. and-true (by-held p (some-place tb s t p (named .stands)) e (eq-eqb (e .holder) p (k e h .0))) (ap (λ k. eqb k kind.durable) (sym (k e h .3)) ∙ true-and (heldBy p (g e)) (isDurable (g e)) h .1))
       (λ a b h i r. (k a h .0 ∙ sym (k b i .0), sym (ap (λ (r : RmId). r .0) (k a h .1)) ∙ r ∙ ap (λ (r : RmId). r .0) (k b i .1)))
       (tb .enlistments) (rw (filter-filter isDurable isHeld (tb .enlistments)) at (s .managers-differ)))
     where
@@ -293,10 +285,10 @@ module _ (tb : Table) (log : List ℕ) (n : ℕ) (s : Sound tb) (full : length l
   own-after : (P : Enlistment → Type 0) (f : Enlistment → Enlistment) → P (f me) → f me .holder ≡ p → Some P (held p (changed f))
   own-after P f q h = held-own (λ e. me ≡ e) P p (onNumber n f) tb (λ e m d. rw (← d, is-changed f me (named .number)) (q, h)) (record { it = me; there = named .mine; holds = refl })
 
-  -- the view before and after, by the state of the transaction
-  view-before : (k : ℕ) → stateAt p tb ≡ k → viewOf t tb ≡ look k hs
-  view-before = view-in t p tb (stands-place t p tb (named .stands))
+  here : placeNamed t tb ≡ p
+  here = stands-place t p tb (named .stands)
 
+  -- by the state of the transaction
   view-after : (f : Enlistment → Enlistment) (k : ℕ) → stateAt p tb ≡ k → viewOf t (changed f) ≡ look k (held p (changed f))
   view-after f k q = view-changes t p tb (named .stands) (onNumber n f) ∙ ap (λ k. look k (held p (changed f))) q
 
@@ -334,15 +326,15 @@ module _ (tb : Table) (log : List ℕ) (n : ℕ) (s : Sound tb) (full : length l
     -- not the last vote
     vote-more : (f : Enlistment → Enlistment) (mild : Mild f) → HasVoted f mild → Own tb this-event log t (quietly (changed f) log)
     vote-more f mild w = unlogged tb this-event log t p (changed f) (touched f mild) refl (changed f) [] (addressed-nothing tb this-event) refl (λ u d. refl)
-        (λ h made l a. rw (view-before transaction.phaseOne voting-state, view-after f transaction.phaseOne voting-state)
+        (λ h made l a. rw (view-in t p tb here transaction.phaseOne voting-state, view-after f transaction.phaseOne voting-state)
         (vote-on refl (quiet t tb this-event [] (only-nothing notCommitted) (only-nothing notAborted)) (w .calm) (w .preparing) (w .hopes) (w .prepares)))
 
     vote-decides : (f : Enlistment → Enlistment) (mild : Mild f) → HasVoted f mild → Own tb this-event log t (follow then.Decide p (changed f) log)
     unfolding follow
     vote-decides f mild w = by-cases (Own tb this-event log t) (any (isIn enlistment.preparing) (held p (changed f))) _ _
         (λ _. vote-more f mild w)
-        (λ q. own-decide tb this-event log t p (changed f) (touched f mild) refl hs (view-before transaction.phaseOne voting-state) (own-id-size tb s t p (named .stands)) w q
-        (full ∙ sym (touched f mild .capacity)) (rw (touched f mild .used, touched f mild .capacity) (low tb s t p (named .stands)))
+        (λ q. own-decide tb this-event log t p (changed f) (touched f mild) refl hs (view-in t p tb here transaction.phaseOne voting-state) (own-id-size tb s t p (named .stands)) w q
+        (full ∙ sym (touched f mild .capacity)) (rw (touched f mild .used, touched f mild .capacity) (used-fits s))
         (λ c. omega (arith, c, state-after f transaction.phaseOne voting-state)))
 
   own-vote : (v : Vote) → In enlistment.preparing me → Own tb (event (act.Vote n v)) log t (react (toVote v) p n tb log)
@@ -368,27 +360,27 @@ module _ (tb : Table) (log : List ℕ) (n : ℕ) (s : Sound tb) (full : length l
     where
       other : (r : Id) → Prepares t r (Note.voted t n (me .rm .0) (me .kind) vote.ReadOnly) → ⊥
       other r (m, q) = let z : _≡_ {A = ℕ} 0 1 = cc in omega arith
-  own-vote vote.Aborted state = own-abort tb (event (act.Vote n vote.Aborted)) log t p (changed (inState enlistment.done)) (touched (inState enlistment.done) (state-mild enlistment.done)) refl (rw (view-before transaction.phaseOne (voting-state vote.Aborted state)) from-voting)
+  own-vote vote.Aborted state = own-abort tb (event (act.Vote n vote.Aborted)) log t p (changed (inState enlistment.done)) (touched (inState enlistment.done) (state-mild enlistment.done)) refl (rw (view-in t p tb here transaction.phaseOne (voting-state vote.Aborted state)) from-voting)
 
   -- ── after the decision ────────────────────────────────────────────────────────────────────────────────────────
 
-  -- an enlistment in another state: kinds stay
+  -- an enlistment in another state
+  key : (k : ℕ) (e : Enlistment) → SameKey e (onNumber n (inState k) e)
+  key k e = key-either (isNumbered n e) k (key-same e)
+
   durable-stays : (k : ℕ) → Some Durable hs → Some Durable (held p (changed (inState k)))
   durable-stays k h = held-own Durable Durable p (onNumber n (inState k)) tb
-      (λ e m q. by-cases (λ (w : Enlistment). Durable w × (w .holder ≡ e .holder)) (isNumbered n e) (inState k e) e (λ _. (q, refl)) (λ _. (q, refl))) h
+      (λ e m q. (key k e .kind ∙ q, key k e .holder)) h
 
   numbers-stay : (k m : ℕ) → Some (λ e. e .number ≡ m) hs → Some (λ e. e .number ≡ m) (held p (changed (inState k)))
   numbers-stay k m h = held-own (λ e. e .number ≡ m) (λ e. e .number ≡ m) p (onNumber n (inState k)) tb
-      (λ e i q. by-cases (λ (w : Enlistment). (w .number ≡ m) × (w .holder ≡ e .holder)) (isNumbered n e) (inState k e) e (λ _. (q, refl)) (λ _. (q, refl))) h
+      (λ e i q. (key k e .number ∙ q, key k e .holder)) h
 
   durable-came : (k : ℕ) {w : Enlistment} → w ∈ held p (changed (inState k)) → Durable w → Some Durable hs
-  durable-came k {w} m d = record { it = c .it; there = c .there; holds = sym (same (c .it)) ∙ sym (ap (λ (e : Enlistment). e .kind) (c .holds)) ∙ d }
+  durable-came k {w} m d = record { it = c .it; there = c .there; holds = sym (key k (c .it) .kind) ∙ sym (ap (λ (e : Enlistment). e .kind) (c .holds)) ∙ d }
     where
       c : Some (λ e. w ≡ onNumber n (inState k) e) hs
       c = held-came p (onNumber n (inState k)) tb m
-
-      same : (e : Enlistment) → onNumber n (inState k) e .kind ≡ e .kind
-      same e = by-cases (λ (w : Enlistment). w .kind ≡ e .kind) (isNumbered n e) (inState k e) e (λ _. refl) (λ _. refl)
 
   none-stays : (k : ℕ) → NoDurable hs → NoDurable (held p (changed (inState k)))
   none-stays k no-durable w m d = let c : Some Durable hs = durable-came k m d in no-durable (c .it) (c .there) (c .holds)
@@ -404,17 +396,17 @@ module _ (tb : Table) (log : List ℕ) (n : ℕ) (s : Sound tb) (full : length l
 
   -- its forget record fits, if it is open still
   room-after : (k : ℕ) → stateAt p tb ≡ transaction.committing → any isDurable (held p (changed (inState k))) ≡ true → changed (inState k) .used + forgetSize ≤ length log
-  room-after k state d = rw (touched (inState k) (state-mild k) .used) (room-open tb s t p (named .stands) log full state (durable-came k (c .there) (eqb-true (c .it .kind) kind.durable (c .holds))))
+  room-after k state d = rw (touched (inState k) (state-mild k) .used) (room-open tb s t p (named .stands) log full state (durable-came k (c .there) (c .holds)))
     where
-      c : Some (λ e. isDurable e ≡ true) (held p (changed (inState k)))
-      c = any-some isDurable (held p (changed (inState k))) d
+      c : Some Durable (held p (changed (inState k)))
+      c = any-durable (held p (changed (inState k))) d
 
   module _ (a : Act) (about : subjectOf tb (event a) ≡ t) (state : stateAt p tb ≡ transaction.committing) (calm : Calm t (noteOf tb (event a))) where
     -- it is Done
     done-committing : (Durable me → Closes t (me .rm .0) (noteOf tb (event a))) → Own tb (event a) log t (follow then.End p (changed (inState enlistment.done)) log)
     unfolding follow
     done-committing closes = own-end-committing tb (event a) log t p (changed (inState enlistment.done)) (touched (inState enlistment.done) (state-mild enlistment.done)) about hs
-        (view-before transaction.committing state) (state-after (inState enlistment.done) transaction.committing state)
+        (view-in t p tb here transaction.committing state) (state-after (inState enlistment.done) transaction.committing state)
         (record {
           calm = calm;
           waits = λ r h. by-either inl (λ q. inr (rw (q .0) at (closes (q .1)))) (waits-stays enlistment.done r h);
@@ -427,7 +419,7 @@ module _ (tb : Table) (log : List ℕ) (n : ℕ) (s : Sound tb) (full : length l
   done-aborting : (a : Act) → subjectOf tb (event a) ≡ t → stateAt p tb ≡ transaction.aborting → Own tb (event a) log t (follow then.End p (changed (inState enlistment.done)) log)
   unfolding follow
   done-aborting a about state = own-end-aborting tb (event a) log t p (changed (inState enlistment.done)) (touched (inState enlistment.done) (state-mild enlistment.done)) about
-      (view-before transaction.aborting state) (state-after (inState enlistment.done) transaction.aborting state) (view-after (inState enlistment.done) transaction.aborting state)
+      (view-in t p tb here transaction.aborting state) (state-after (inState enlistment.done) transaction.aborting state) (view-after (inState enlistment.done) transaction.aborting state)
 
   own-ack : In enlistment.toldCommit me ⊎ In enlistment.toldAbort me → Own tb (event (act.Ack n)) log t (react (reaction.Becomes enlistment.done then.End) p n tb log)
   unfolding react told
@@ -436,28 +428,24 @@ module _ (tb : Table) (log : List ℕ) (n : ℕ) (s : Sound tb) (full : length l
 
   -- ── the end of single phase ───────────────────────────────────────────────────────────────────────────────────
 
-  abbrev single-over : Name → Outcome
-  single-over a = saying (toApp a) (quietly (emptied p (changed freed)) log)
-
-  end-is : (a : Name) → stateAt p tb ≡ transaction.singlePhase → follow (then.EndWith a) p (changed freed) log ≡ single-over a
+  single-ends : (a : Act) → subjectOf tb (event a) ≡ t → (b : Name) → In enlistment.onePhase me
+      → ((h : List Note) (l : Story) → Move t h (noteOf tb (event a)) (map (messageOf tb (event a)) (toApp b)) l l (alone.single hs) alone.out)
+      → Own tb (event a) log t (follow (then.EndWith b) p (changed freed) log)
   unfolding follow
-  end-is a state = ap (saying (toApp a)) (unlogged-end p (changed freed) log (λ q. omega (arith, q, state-after freed transaction.singlePhase state)))
-
-  -- what the application is told is no abort after a committed reply, and no commit after any other
-  reply-ends : (r : Reply) (a : Name) → (h : stateAt p tb ≡ transaction.singlePhase)
-      → ((h : List Note) (l : Story) → Agrees (viewOf t tb) l → Move t h (noteOf tb (event (act.Reply n r))) (map (messageOf tb (event (act.Reply n r))) (toApp a)) l l (alone.single hs) alone.out)
-      → Own tb (event (act.Reply n r)) log t (follow (then.EndWith a) p (changed freed) log)
-  reply-ends r a state moves = rw (end-is a state) (unlogged tb (event (act.Reply n r)) log t p (changed freed) (touched freed freed-mild) refl (emptied p (changed freed)) (toApp a) (addressed-one tb (event (act.Reply n r)) a 0 (inl refl)) (used-emptied p (changed freed)) (ends-for t p (changed freed) (touched freed freed-mild .stands))
-      (λ h made l g. rw (view-before transaction.singlePhase state, view-ends t p (changed freed) (touched freed freed-mild .stands)) (moves h l g)))
+  single-ends a about b state moves = own-end-saying tb (event a) log t p (changed freed) (touched freed freed-mild) about b (λ q. omega (arith, q, state-after freed transaction.singlePhase four))
+      (λ h made l g. rw (view-in t p tb here transaction.singlePhase four) (moves h l))
+    where
+      four : stateAt p tb ≡ transaction.singlePhase
+      four = of-single (stateAt p tb) me (named .line) state
 
   own-reply : (r : Reply) → In enlistment.onePhase me → Own tb (event (act.Reply n r)) log t (react (reaction.Freed (then.EndWith (toReply r))) p n tb log)
   unfolding react told
-  own-reply reply.Committed state = reply-ends reply.Committed name.AppCommitted (of-single (stateAt p tb) me (named .line) state)
-      (λ h l g. replied refl refl (record { it = me; there = named .mine; holds = named .number }) (none-aborted t tb (event (act.Reply n reply.Committed)) (toApp name.AppCommitted) (only-one notAborted name.AppCommitted 0 refl)))
-  own-reply reply.Aborted state = reply-ends reply.Aborted name.AppAborted (of-single (stateAt p tb) me (named .line) state)
-      (λ h l g. abort refl from-single to-out (none-committed t tb (event (act.Reply n reply.Aborted)) (toApp name.AppAborted) (only-one notCommitted name.AppAborted 0 refl)))
-  own-reply reply.InDoubt state = reply-ends reply.InDoubt name.AppInDoubt (of-single (stateAt p tb) me (named .line) state)
-      (λ h l g. abort refl from-single to-out (none-committed t tb (event (act.Reply n reply.InDoubt)) (toApp name.AppInDoubt) (only-one notCommitted name.AppInDoubt 0 refl)))
+  own-reply reply.Committed state = single-ends (act.Reply n reply.Committed) refl name.AppCommitted state
+      (λ h l. replied refl refl (record { it = me; there = named .mine; holds = named .number }) (none-aborted t tb (event (act.Reply n reply.Committed)) (toApp name.AppCommitted) (only-one notAborted name.AppCommitted 0 refl)))
+  own-reply reply.Aborted state = single-ends (act.Reply n reply.Aborted) refl name.AppAborted state
+      (λ h l. abort refl from-single to-out (none-committed t tb (event (act.Reply n reply.Aborted)) (toApp name.AppAborted) (only-one notCommitted name.AppAborted 0 refl)))
+  own-reply reply.InDoubt state = single-ends (act.Reply n reply.InDoubt) refl name.AppInDoubt state
+      (λ h l. abort refl from-single to-out (none-committed t tb (event (act.Reply n reply.InDoubt)) (toApp name.AppInDoubt) (only-one notCommitted name.AppInDoubt 0 refl)))
 
   -- ── zero done ─────────────────────────────────────────────────────────────────────────────────────────────────
 
@@ -465,9 +453,9 @@ module _ (tb : Table) (log : List ℕ) (n : ℕ) (s : Sound tb) (full : length l
   unfolding react follow told
   own-zero-done state = by-cases (Own tb this-event log t) (any isPhaseZero (held p (changed freed))) _ _
       (λ _. unlogged tb this-event log t p (changed freed) (touched freed freed-mild) refl (changed freed) [] (addressed-nothing tb this-event) refl (λ u d. refl)
-      (λ h made l g. rw (view-before transaction.phaseZero (two .0), view-after freed transaction.phaseZero (two .0))
+      (λ h made l g. rw (view-in t p tb here transaction.phaseZero (two .0), view-after freed transaction.phaseZero (two .0))
       (gather refl (nothing-calm t .not-prepared) (quiet t tb this-event [] (only-nothing notCommitted) (only-nothing notAborted)) unasked (λ m r k q w. absurd (nothing-calm t .not-enlisted m r k q)) (λ e m. inl (same e (was freed freed-mild m))))))
-      (λ none. own-start tb this-event log t p (changed freed) (touched freed freed-mild) refl hs (view-before transaction.phaseZero (two .0)) (nothing-calm t) unasked (λ e m. voting e (none-each isPhaseZero (held p (changed freed)) none e m) (was freed freed-mild m)) (λ c. omega (arith, c, state-after freed transaction.phaseZero (two .0))))
+      (λ none. own-start tb this-event log t p (changed freed) (touched freed freed-mild) refl hs (view-in t p tb here transaction.phaseZero (two .0)) (nothing-calm t) unasked (λ e m. voting e (none-each isPhaseZero (held p (changed freed)) none e m) (was freed freed-mild m)) (λ c. omega (arith, c, state-after freed transaction.phaseZero (two .0))))
     where
       this-event : Event
       this-event = event (act.ZeroDone n)
@@ -499,7 +487,7 @@ module _ (tb : Table) (log : List ℕ) (n : ℕ) (s : Sound tb) (full : length l
   lost-prepared : In enlistment.prepared me → Own tb lost log t (react (reaction.Becomes enlistment.preparedLost then.Nothing) p n tb log)
   unfolding react follow told
   lost-prepared state = unlogged tb lost log t p (changed (inState enlistment.preparedLost)) (touched (inState enlistment.preparedLost) (state-mild enlistment.preparedLost)) refl (changed (inState enlistment.preparedLost)) [] (addressed-nothing tb lost) refl (λ u d. refl)
-      (λ h made l g. rw (view-before transaction.phaseOne three, view-after (inState enlistment.preparedLost) transaction.phaseOne three)
+      (λ h made l g. rw (view-in t p tb here transaction.phaseOne three, view-after (inState enlistment.preparedLost) transaction.phaseOne three)
       (vote-on refl (quiet t tb lost [] (only-nothing notCommitted) (only-nothing notAborted)) (nothing-calm t .not-enlisted)
       (λ m r k w. inr (keep-others (Preparing m r k) (inState enlistment.preparedLost) (λ q. omega (arith, state, q .1)) w))
       (λ r w. held-own (Hopes r) (Hopes r) p (onNumber n (inState enlistment.preparedLost)) tb (λ e m q. by-cases (λ (v : Enlistment). Hopes r v × (v .holder ≡ e .holder)) (isNumbered n e) (inState enlistment.preparedLost e) e (λ _. ((q .0, q .1, inr refl), refl)) (λ _. (q, refl))) w)
@@ -510,16 +498,13 @@ module _ (tb : Table) (log : List ℕ) (n : ℕ) (s : Sound tb) (full : length l
 
   lost-single : In enlistment.onePhase me → Own tb lost log t (react (reaction.Freed (then.EndWith name.AppInDoubt)) p n tb log)
   unfolding react
-  lost-single state = rw (end-is name.AppInDoubt four) (unlogged tb lost log t p (changed freed) (touched freed freed-mild) refl (emptied p (changed freed)) (toApp name.AppInDoubt) (addressed-one tb lost name.AppInDoubt 0 (inl refl)) (used-emptied p (changed freed)) (ends-for t p (changed freed) (touched freed freed-mild .stands))
-      (λ h made l g. rw (view-before transaction.singlePhase four, view-ends t p (changed freed) (touched freed freed-mild .stands)) (abort refl from-single to-out (none-committed t tb lost (toApp name.AppInDoubt) (only-one notCommitted name.AppInDoubt 0 refl)))))
-    where
-      four : stateAt p tb ≡ transaction.singlePhase
-      four = of-single (stateAt p tb) me (named .line) state
+  lost-single state = single-ends (act.Lost n) refl name.AppInDoubt state
+      (λ h l. abort refl from-single to-out (none-committed t tb lost (toApp name.AppInDoubt) (only-one notCommitted name.AppInDoubt 0 refl)))
 
   lost-told : In enlistment.toldCommit me → Own tb lost log t (react (reaction.Becomes enlistment.failedToNotify then.Nothing) p n tb log)
   unfolding react follow told
   lost-told state = unlogged tb lost log t p (changed (inState enlistment.failedToNotify)) (touched (inState enlistment.failedToNotify) (state-mild enlistment.failedToNotify)) refl (changed (inState enlistment.failedToNotify)) [] (addressed-nothing tb lost) refl (λ u d. refl)
-      (λ h made l g. rw (view-before transaction.committing five, view-after (inState enlistment.failedToNotify) transaction.committing five)
+      (λ h made l g. rw (view-in t p tb here transaction.committing five, view-after (inState enlistment.failedToNotify) transaction.committing five)
       (told-on refl (nothing-calm t) (none-aborted t tb lost [] (only-nothing notAborted))
       (λ r w. inl (held-own (Waits r) (Waits r) p (onNumber n (inState enlistment.failedToNotify)) tb (λ e m q. by-cases (λ (v : Enlistment). Waits r v × (v .holder ≡ e .holder)) (isNumbered n e) (inState enlistment.failedToNotify e) e (λ _. ((q .0, q .1, inr refl), refl)) (λ _. (q, refl))) w))
       (durable-stays enlistment.failedToNotify) (none-stays enlistment.failedToNotify) (numbers-stay enlistment.failedToNotify)))
@@ -537,11 +522,11 @@ module _ (tb : Table) (log : List ℕ) (n : ℕ) (s : Sound tb) (full : length l
 
   -- before the decision
   early-doomed : In enlistment.active me ⊎ In enlistment.zero me → Doomed t (viewOf t tb)
-  early-doomed (inl q) = by-either (λ w. rw (view-before transaction.active w) from-early) (λ w. rw (view-before transaction.phaseZero w) from-early) (of-active (stateAt p tb) me (named .line) q)
-  early-doomed (inr q) = rw (view-before transaction.phaseZero (of-zero (stateAt p tb) me (named .line) q .0)) from-early
+  early-doomed (inl q) = by-either (λ w. rw (view-in t p tb here transaction.active w) from-early) (λ w. rw (view-in t p tb here transaction.phaseZero w) from-early) (of-active (stateAt p tb) me (named .line) q)
+  early-doomed (inr q) = rw (view-in t p tb here transaction.phaseZero (of-zero (stateAt p tb) me (named .line) q .0)) from-early
 
   voting-doomed : In enlistment.preparing me ⊎ In enlistment.prepared me → Doomed t (viewOf t tb)
-  voting-doomed q = rw (view-before transaction.phaseOne (of-voting (stateAt p tb) me (named .line) q)) from-voting
+  voting-doomed q = rw (view-in t p tb here transaction.phaseOne (of-voting (stateAt p tb) me (named .line) q)) from-voting
 
   -- ── every reaction ────────────────────────────────────────────────────────────────────────────────────────────
 

@@ -1,19 +1,18 @@
 -- A finished re-enlistment makes Done what this resource manager holds in 8, and with that closes its own right to ask, in each transaction alike. So to each it is
 -- a move: it ends if all are Done now, and else goes on; whoever else waits there waits as before.
-use Prim.Native.Nat.{ℕ, suc}
-use native.Mathlib.Omega.{arith}
+use Prim.Native.Nat.{ℕ}
 use mathlib.Core.Path.{_≡_, refl, sym, _∙_, ap}
 use mathlib.Core.Logic.{_⊎_, inl, inr}
 use mathlib.Core.Bool.{Bool, true, false, _&&_}
-use mathlib.Core.List.{List, [], _∷_, map, List·Memᴰ·not-nil}
+use mathlib.Core.List.{List, [], map}
 use lib.ListN.{length}
 use lib.Dec.{eqb}
-use borrow.Author.Tests.{eqb-true, eqb-false, eq-eqb}
+use borrow.Author.Tests.{eqb-true, eqb-false}
 use Rattle.lists.specs.Members.{_∈_, Each, Some}
-use Rattle.lists.specs.Lists.{all, any, filter}
-use Rattle.lists.specs.Places.{placesFrom, placesWhere}
-use Rattle.lists.proofs.Tests.{by-test, by-either, no-clash, is-false, true-and, in-map, of-map, each-head, each-rest, all-each, some-any, any-some}
-use Rattle.lists.proofs.Places.{in-places, of-places}
+use Rattle.lists.specs.Lists.{all, any}
+use Rattle.lists.specs.Places.{placesWhere}
+use Rattle.lists.proofs.Tests.{by-test, by-either, no-clash, is-false, true-and, in-map, of-map, all-each, map-same}
+use Rattle.lists.proofs.Places.{in-places, of-places, IsPlace}
 use Rattle.lists.proofs.Sorting.{in-sort, of-sort}
 use Rattle.rules.specs.declared.Transaction.{Transaction}
 use Rattle.rules.specs.declared.Enlistment.{Enlistment}
@@ -22,35 +21,31 @@ use Rattle.rules.specs.Kinds as kind
 use Rattle.rules.specs.TransactionState as transaction
 use Rattle.rules.specs.EnlistmentState as enlistment
 use Rattle.rules.specs.Identifiers.{Id, sameBytes, isZero}
-use Rattle.rules.specs.Table.{noTransaction, isNamed, placeNamed, transactionAt, stateAt, heldBy, held, isDurable, isDurableOf, isIn, isDone, inState, withEnlistments, idAt}
-use Rattle.rules.specs.Sound.{Sound, HoldsWell, In, Durable, isOpen, openPlaces, openCount, active, phase-zero, phase-one, single-phase, committing, aborting}
+use Rattle.rules.specs.Table.{noTransaction, isNamed, placeNamed, transactionAt, stateAt, held, isDurable, isDurableOf, isIn, isDone, idAt}
+use Rattle.rules.specs.Sound.{Sound, In, Durable, isOpen, committing}
 use Rattle.rules.specs.Events.{doneFor, byIdentifier, finished, endEach, reenlistedOf}
 use Rattle.rules.proofs.Identifiers.{same-equal}
 use Rattle.rules.proofs.Frames.{named-found, none-absent, named-place, Stands, Absent, stands-place, is-named}
 use Rattle.rules.specs.Restart.{Open, isOpenAs}
+use Rattle.rules.proofs.Told as told
 use Rattle.safety.specs.World.{Note}
 use Rattle.safety.specs.Host.{Closes}
 use Rattle.safety.proofs.Alone as alone
-use Rattle.safety.proofs.Alone.{Story, closed, View, out, Waits, NoDurable}
-use Rattle.safety.proofs.Move.{Quiet, Calm, calm-note, Move, stay, told-on, end-logged}
+use Rattle.safety.proofs.Alone.{Story, View, out, Waits, NoDurable, any-durable, durable-any, waits-undone}
+use Rattle.safety.proofs.Move.{quiet-nothing, Calm, calm-note, Move, stay, told-on, end-logged}
 use Rattle.safety.proofs.Top.{Agrees}
-use Rattle.safety.proofs.Story.{story, onForget}
+use Rattle.safety.proofs.Story.{story, onForget, forgotten}
 use Rattle.safety.proofs.View.{viewOf, look, view-in, view-stands, view-absent}
-use Rattle.safety.proofs.Given.{stands-sound, id-size, row}
-use Rattle.safety.proofs.Own.{by-cases}
+use Rattle.safety.proofs.Given.{stands-sound, row}
 use Rattle.safety.proofs.Reactions.{live, of-commit}
 use Rattle.safety.proofs.Fitting.{Ready, Judged, told-open, live-nonzero}
-use Rattle.safety.proofs.Ends.{Roomy, Seen, forgets, each-other, each-own, Forgettable, each-fits, open-live, live-open}
+use Rattle.safety.proofs.Ends.{Roomy, Seen, forgets, each-other, each-own, Forgettable, each-fits}
+use Rattle.rules.proofs.Parts.{open-live, open-committing}
+use Rattle.rules.proofs.Kept.{live-true}
 
 -- ── the enlistments ─────────────────────────────────────────────────────────────────────────────────────────────
 
 module _ (r : Id) where
-  done-kept : (e : Enlistment) → (doneFor r e .holder ≡ e .holder) × (doneFor r e .kind ≡ e .kind)
-  done-kept e = by-cases (λ (w : Enlistment). (w .holder ≡ e .holder) × (w .kind ≡ e .kind)) (isDurableOf r e && isIn enlistment.failedToNotify e) (inState enlistment.done e) e (λ _. (refl, refl)) (λ _. (refl, refl))
-
-  done-number : (e : Enlistment) → doneFor r e .number ≡ e .number
-  done-number e = by-cases (λ (w : Enlistment). w .number ≡ e .number) (isDurableOf r e && isIn enlistment.failedToNotify e) (inState enlistment.done e) e (λ _. refl) (λ _. refl)
-
   -- what was not Done and is, was r's, durable, and in Failed-to-notify
   done-now : (e : Enlistment) → isDone (doneFor r e) ≡ true → (isDone e ≡ true) ⊎ ((isDurableOf r e && isIn enlistment.failedToNotify e) ≡ true)
   done-now e d = by-test (isDurableOf r e && isIn enlistment.failedToNotify e) (λ b. inr b) (λ b. inl (rw b at d))
@@ -61,41 +56,11 @@ module _ (r : Id) where
       (λ b. inr (sym (w .1) ∙ same-equal (e .rm .0) r (true-and (isDurable e) (sameBytes (e .rm .0) r) (true-and (isDurableOf r e) (isIn enlistment.failedToNotify e) b .0) .1)))
       (λ b. inl (rw b w))
 
-  held-map : (q : ℕ) (es : List Enlistment) → filter (heldBy q) (map (doneFor r) es) ≡ map (doneFor r) (filter (heldBy q) es)
-  unfolding filter
-  held-map q [] = refl
-  held-map q (e ∷ es) = by-test (heldBy q e)
-      (λ b. rw (b, ap (λ n. eqb n q) (done-kept e .0) ∙ b) (ap (λ l. doneFor r e ∷ l) (held-map q es)))
-      (λ b. rw (b, ap (λ n. eqb n q) (done-kept e .0) ∙ b) (held-map q es))
-
-  durable-map : (es : List Enlistment) → any isDurable (map (doneFor r) es) ≡ any isDurable es
-  unfolding any
-  durable-map [] = refl
-  durable-map (e ∷ es) = rw (ap (λ n. eqb n kind.durable) (done-kept e .1), durable-map es) refl
-
-same-map : (f : Enlistment → Enlistment) (es : List Enlistment) → Each (λ e. f e ≡ e) es → map f es ≡ es
-same-map f [] h = refl
-same-map f (e ∷ es) h = rw (each-head h, same-map f es (each-rest h)) refl
-
-same-places : {A : Type 0} (f g : ℕ → A → Bool) → ((q : ℕ) (x : A) → g q x ≡ f q x) → (k : ℕ) (xs : List A) → placesFrom g k xs ≡ placesFrom f k xs
-unfolding placesFrom
-same-places f g h k [] = refl
-same-places f g h k (x ∷ xs) = rw (h k x, same-places f g h (suc k) xs) refl
-
--- in Committing, at least one is not Done
-some-undone : {s : ℕ} {hs : List Enlistment} → HoldsWell s hs → s ≡ transaction.committing → Some (λ e. In enlistment.done e → ⊥) hs
-some-undone (active q a) c = absurd (omega arith)
-some-undone (phase-zero q a i) c = absurd (omega arith)
-some-undone (phase-one q p a i) c = absurd (omega arith)
-some-undone (single-phase q l a) c = absurd (omega arith)
-some-undone (committing q p a i) c = i
-some-undone (aborting q a i) c = absurd (omega arith)
-
 -- ── the table after it ──────────────────────────────────────────────────────────────────────────────────────────
 
 module _ (r : Id) (tb : Table) (log : List ℕ) (s : Sound tb) (full : length log ≡ tb .capacity) where
   unfoldable pub after : Table
-  after = withEnlistments (map (doneFor r) (tb .enlistments)) tb
+  after = told.after r tb
 
   abbrev pub ps : List ℕ
   ps = finished after
@@ -105,19 +70,20 @@ module _ (r : Id) (tb : Table) (log : List ℕ) (s : Sound tb) (full : length lo
   reenlisted-is = refl
 
   held-after : (q : ℕ) → held q after ≡ map (doneFor r) (held q tb)
-  unfolding held after
-  held-after q = held-map r q (tb .enlistments)
+  unfolding after
+  held-after = told.held-done r tb
 
   open-after : (q : ℕ) (n : ℕ) → isOpen n (held q after) ≡ isOpen n (held q tb)
-  open-after q n = rw (held-after q, durable-map r (held q tb)) refl
-
-  as-many : openCount after ≡ openCount tb
-  unfolding openPlaces after
-  as-many = ap length (same-places (λ q (x : Transaction). isOpen (x .state) (held q tb)) (λ q (x : Transaction). isOpen (x .state) (held q after)) (λ q x. open-after q (x .state)) 1 (tb .transactions))
+  unfolding after
+  open-after = told.open-done r tb
 
   pub roomy-after : Roomy after log
   unfolding after
-  roomy-after = record { sized = id-size tb s; room = rw (as-many, full) (s .room) }
+  roomy-after = record { kept = told.kept-done r tb s; room = told.room-done r tb (s .room); full = full }
+
+  pub finished-places : Each (λ p. IsPlace (after .transactions) p) ps
+  unfolding after
+  finished-places = told.finished-places r tb
 
   -- ── what it writes fits ───────────────────────────────────────────────────────────────────────────────────────
 
@@ -125,35 +91,29 @@ module _ (r : Id) (tb : Table) (log : List ℕ) (s : Sound tb) (full : length lo
   unfolding after
   forgettable os r = record {
     opened = λ q b. opened q (sym (open-after q (stateAt q tb)) ∙ b);
-    unlike = λ q k a b e. sym (stands-sound tb s (idAt q tb) q (is-named (transactionAt q tb) a) .alone k (rw e (is-named (transactionAt k tb) b)));
-    sized = id-size tb s;
     space = r .room;
   }
     where
       at : (q : ℕ) → isOpen (stateAt q tb) (held q tb) ≡ true → Stands (idAt q tb) q tb
-      at q b = stands-sound tb s (idAt q tb) q (is-named (transactionAt q tb) (open-live q tb b))
+      at q b = stands-sound tb s (idAt q tb) q (is-named (transactionAt q tb) (live-true (transactionAt q tb) (open-live q tb b)))
 
       durable : (q : ℕ) → isOpen (stateAt q tb) (held q tb) ≡ true → NoDurable (held q tb) → ⊥
-      durable q b y = let w : Some (λ x. isDurable x ≡ true) (held q tb) = any-some isDurable (held q tb) (true-and (eqb (stateAt q tb) transaction.committing) (any isDurable (held q tb)) b .1) in
-          y (w .it) (w .there) (eqb-true (w .it .kind) kind.durable (w .holds))
+      durable q b y = let w : Some Durable (held q tb) = any-durable (held q tb) (true-and (eqb (stateAt q tb) transaction.committing) (any isDurable (held q tb)) b .1) in y (w .it) (w .there) (w .holds)
 
       shows : (q : ℕ) → isOpen (stateAt q tb) (held q tb) ≡ true → viewOf (idAt q tb) tb ≡ alone.committing (held q tb)
-      shows q b = view-in (idAt q tb) q tb (stands-place (idAt q tb) q tb (at q b)) transaction.committing (live-open (stateAt q tb) (held q tb) b)
+      shows q b = view-in (idAt q tb) q tb (stands-place (idAt q tb) q tb (at q b)) transaction.committing (open-committing (stateAt q tb) (held q tb) b)
 
       opened : (q : ℕ) → isOpen (stateAt q tb) (held q tb) ≡ true → (isZero (idAt q tb) ≡ false) × (any (isOpenAs (idAt q tb)) os ≡ true)
       opened q b = (live-nonzero tb s (idAt q tb) q (at q b), told-open tb log os r (idAt q tb) (held q tb) (shows q b) (durable q b))
 
   pub reenlisted-judged : Judged tb log (endEach ps after log .table .used) (forgets ps after log)
-  reenlisted-judged = record { judged = λ os r. each-fits ps after log (length log) os (forgettable os r) }
+  reenlisted-judged = record { judged = λ os r. each-fits ps after log roomy-after finished-places (length log) os (forgettable os r) }
 
   -- ── to one transaction ────────────────────────────────────────────────────────────────────────────────────────
 
   module _ (t : Id) (h : List Note) (l : Story) where
     abbrev pub M : View → View → Type 0
     M v w = Move t h (Note.reenlisted r) [] l (story t l (forgets ps after log)) v w
-
-    silent : Quiet t []
-    silent = record { no-committed = λ m. List·Memᴰ·not-nil (m .there); no-aborted = λ m. List·Memᴰ·not-nil (m .there) }
 
     calm : Calm t (Note.reenlisted r)
     calm = calm-note t (Note.reenlisted r) refl
@@ -162,12 +122,12 @@ module _ (r : Id) (tb : Table) (log : List ℕ) (s : Sound tb) (full : length lo
     Result = viewOf t (endEach ps after log .table)
 
     stays : (v : View) → viewOf t tb ≡ v → Seen t ps after log v (λ k. k) → M (viewOf t tb) Result
-    stays v e w = rw (e, w .view) (stay (w .tale l) calm silent)
+    stays v e w = rw (e, w .view) (stay (w .tale l) calm (quiet-nothing t))
 
     -- it is not live
     dead : Absent t tb → M (viewOf t tb) Result
     unfolding after
-    dead a = stays out (view-absent t tb a) (each-other t ps after log out (view-absent t after (record { nowhere = a .nowhere })) (λ q m. a .nowhere q))
+    dead a = stays out (view-absent t tb a) (each-other t ps after log out roomy-after finished-places (view-absent t after (record { nowhere = a .nowhere })) (λ q m. a .nowhere q))
 
     module _ (p : ℕ) (at : Stands t p tb) (agrees : Agrees (viewOf t tb) l) where
       at-after : Stands t p after
@@ -208,7 +168,7 @@ module _ (r : Id) (tb : Table) (log : List ℕ) (s : Sound tb) (full : length lo
 
         -- one was not Done before, so that it was r's and durable
         has-durable : Some Durable hs
-        has-durable = go (some-undone (s .states p (live tb s t p at)) five)
+        has-durable = go (told.in-committing (s .states p (live tb s t p at)) five .2)
           where
             go : Some (λ e. In enlistment.done e → ⊥) hs → Some Durable hs
             go w = by-either
@@ -218,44 +178,37 @@ module _ (r : Id) (tb : Table) (log : List ℕ) (s : Sound tb) (full : length lo
 
         is-open : isOpen (stateAt p after) (held p after) ≡ true
         unfolding after
-        is-open = open-after p (stateAt p tb) ∙ rw (five, some-any isDurable hs (record { it = has-durable .it; there = has-durable .there; holds = eq-eqb (has-durable .it .kind) kind.durable (has-durable .holds) })) refl
+        is-open = open-after p (stateAt p tb) ∙ rw (five, durable-any hs has-durable) refl
 
         all-close : (q : Id) → Some (Waits q) hs → Closes t q (Note.reenlisted r)
-        all-close q w = by-either (λ v. absurd (still v (eqb-true (doneFor r (w .it) .state) enlistment.done (all-done (w .it) (w .there))))) (λ e. inr (ap Note.reenlisted (sym e))) (done-waits r q (w .it) (w .holds))
-          where
-            still : Waits q (doneFor r (w .it)) → doneFor r (w .it) .state ≡ enlistment.done → ⊥
-            still v d = by-either (λ y. omega (arith, y, d)) (λ y. omega (arith, y, d)) (v .2)
-
-        is-closed : Agrees (alone.committing hs) l → onForget l ≡ closed
-        is-closed (inl (rs, q, y, n)) = rw q refl
-        is-closed (inr (q, y)) = absurd (y (has-durable .it) (has-durable .there) (has-durable .holds))
+        all-close q w = by-either (λ v. absurd (waits-undone (doneFor r (w .it)) v (eqb-true (doneFor r (w .it) .state) enlistment.done (all-done (w .it) (w .there))))) (λ e. inr (ap Note.reenlisted (sym e))) (done-waits r q (w .it) (w .holds))
 
         ends : M (viewOf t tb) Result
-        ends = rw (now, w .view) (end-logged (w .tale l ∙ is-closed (rw now at agrees)) calm silent all-close)
+        ends = rw (now, w .view) (end-logged (w .tale l ∙ forgotten hs l (rw now at agrees) (λ y. y (has-durable .it) (has-durable .there) (has-durable .holds))) calm (quiet-nothing t) all-close)
           where
             now : viewOf t tb ≡ alone.committing hs
             now = view-now ∙ ap (λ n. look n hs) five
 
             w : Seen t ps after log out onForget
-            w = each-own t p ps after log at-after (is-finished b) is-open
+            w = each-own t p ps after log roomy-after finished-places at-after (is-finished b) is-open
 
       -- ── it goes on ────────────────────────────────────────────────────────────────────────────────────────────
 
       module _ (b : over ≡ false) where
         seen : Seen t ps after log (look (stateAt p tb) (map (doneFor r) hs)) (λ k. k)
-        seen = each-other t ps after log (look (stateAt p tb) (map (doneFor r) hs)) view-then (not-finished b)
+        seen = each-other t ps after log (look (stateAt p tb) (map (doneFor r) hs)) roomy-after finished-places view-then (not-finished b)
 
         goes-on : stateAt p tb ≡ transaction.committing → M (viewOf t tb) Result
         goes-on five = rw (view-now ∙ ap (λ n. look n hs) five, seen .view ∙ ap (λ n. look n (map (doneFor r) hs)) five)
-            (told-on (seen .tale l) calm (silent .no-aborted)
+            (told-on (seen .tale l) calm (quiet-nothing t .no-aborted)
             (λ q w. by-either (λ v. inl (record { it = doneFor r (w .it); there = in-map (doneFor r) (w .there); holds = v })) (λ e. inr (inr (ap Note.reenlisted (sym e)))) (done-waits r q (w .it) (w .holds)))
-            (λ w. record { it = doneFor r (w .it); there = in-map (doneFor r) (w .there); holds = done-kept r (w .it) .1 ∙ w .holds })
-            (λ no-durable e m d. let c : Some (λ w. doneFor r w ≡ e) hs = of-map (doneFor r) hs m in no-durable (c .it) (c .there) (sym (done-kept r (c .it) .1) ∙ ap (λ (w : Enlistment). w .kind) (c .holds) ∙ d))
-            (λ n w. record { it = doneFor r (w .it); there = in-map (doneFor r) (w .there); holds = done-number r (w .it) ∙ w .holds }))
+            (λ w. record { it = doneFor r (w .it); there = in-map (doneFor r) (w .there); holds = told.done-key r (w .it) .kind ∙ w .holds })
+            (λ no-durable e m d. let c : Some (λ w. doneFor r w ≡ e) hs = of-map (doneFor r) hs m in no-durable (c .it) (c .there) (sym (told.done-key r (c .it) .kind) ∙ ap (λ (w : Enlistment). w .kind) (c .holds) ∙ d))
+            (λ n w. record { it = doneFor r (w .it); there = in-map (doneFor r) (w .there); holds = told.done-key r (w .it) .number ∙ w .holds }))
 
         -- before the decision, and after an abort, none is in Failed-to-notify
         unmoved : (stateAt p tb ≡ transaction.committing → ⊥) → map (doneFor r) hs ≡ hs
-        unmoved n = same-map (doneFor r) hs (λ e m. by-test (isDurableOf r e && isIn enlistment.failedToNotify e)
+        unmoved n = map-same (doneFor r) hs (λ e m. by-test (isDurableOf r e && isIn enlistment.failedToNotify e)
             (λ c. absurd (n (of-commit (stateAt p tb) e (row (s .states p (live tb s t p at)) m) (inr (eqb-true (e .state) enlistment.failedToNotify (true-and (isDurableOf r e) (isIn enlistment.failedToNotify e) c .1))))))
             (λ c. rw c refl))
 

@@ -2,7 +2,7 @@
 -- and names, numbers and resource managers are as the judgements have found them.
 use Prim.Native.Nat.{ℕ, zero, suc, _+_, _*_, _-_, _≤_, _<_}
 use native.Mathlib.Omega.{arith}
-use mathlib.Core.Path.{_≡_, refl, sym, _∙_, ap}
+use mathlib.Core.Path.{_≡_, refl, sym, _∙_, ap, subst}
 use mathlib.Core.Logic.{_⊎_, inl, inr}
 use mathlib.Core.Bool.{Bool, false}
 use mathlib.Core.List.{List, [], _∷_, _++_, map, append-nil, List·Memᴰ·head, List·Memᴰ·tail, List·Memᴰ·cases-cons, List·Memᴰ·append-cases, List·Memᴰ·not-nil, Memᴰ·append-left, Memᴰ·append-right}
@@ -12,19 +12,18 @@ use borrow.Author.Tests.{eqb-true, eqb-false, eq-eqb, ne-eqb}
 use Rattle.lists.specs.Lists.{filter}
 use Rattle.lists.specs.Members.{_∈_, Each, Some, Apart, nothing, more}
 use Rattle.lists.specs.Places.{atFrom, placesFrom}
-use Rattle.lists.proofs.Tests.{by-test, by-either, no-clash, false-not, each-head, each-rest, in-map, of-map, filter-append, filter-all, filter-none, length-filter}
+use Rattle.lists.proofs.Tests.{by-test, by-either, false-not, each-head, each-rest, in-map, of-map, filter-append, filter-all, filter-none, length-filter}
 use Rattle.lists.proofs.Apart.{apart-head, apart-rest, apart-both, apart-first, apart-second, apart-cross, apart-filter, apart-map}
 use Rattle.rules.specs.declared.Transaction.{Transaction}
 use Rattle.rules.specs.declared.Enlistment.{Enlistment}
 use Rattle.rules.specs.declared.Table.{Table}
 use Rattle.rules.specs.EnlistmentState as enlistment
 use Rattle.rules.specs.Sizes.{heldMost, headerSize, recordSize, largestCapacity, transactionPlaces, enlistmentPlaces}
-use Rattle.rules.specs.Identifiers.{zeroId, isZero}
 use Rattle.rules.specs.Table.{noTransaction, noEnlistment, isLive, transactionAt, stateAt, isHeld, heldBy, held, isDurable}
-use Rattle.rules.specs.Sound.{Sound, HoldsWell, In, Durable, Live, Held, isOpen, openPlaces, openCount, committing}
+use Rattle.rules.specs.Sound.{Sound, HoldsWell, In, Durable, Live, Held, isOpen, openPlaces, openCount, committing, Identifier, SameNumber, SameManager}
 use Rattle.rules.specs.Log.{Entry}
 use Rattle.rules.specs.Restart.{Open, entriesOpen, reopened, reenlistment, reenlistments, tableOf}
-use Rattle.rules.proofs.Identifiers.{equal-zero}
+use Rattle.rules.proofs.Identifiers.{nonzero-identifier}
 use Rattle.rules.proofs.Frames.{of-held, in-held}
 use Rattle.safety.proofs.Open.{FitEntries, Fit, in-entries}
 
@@ -93,12 +92,6 @@ few-open f n k (o ∷ os) m = let ih : length (placesFrom f (suc k) (map reopene
     by-test (f k (reopened o)) (λ e. rw e (omega (arith, ih))) (λ e. rw e (omega (arith, ih)))
 
 -- ── apart ───────────────────────────────────────────────────────────────────────────────────────────────────────
-
-abbrev SameNumber : Enlistment → Enlistment → Type 0
-SameNumber x y = x .number ≡ y .number
-
-abbrev SameManager : Enlistment → Enlistment → Type 0
-SameManager x y = (x .holder ≡ y .holder) × (x .rm .0 ≡ y .rm .0)
 
 numbers-apart : (k : ℕ) (os : List Open) → Apart (λ (d e : Entry). d .number ≡ e .number) (entriesOpen os) → Apart SameNumber (reenlistments k os)
 unfolding reenlistments entriesOpen
@@ -215,19 +208,16 @@ module _ (capacity used : ℕ) (os : List Open) (k : Fit os) (header : headerSiz
   unfolding openPlaces tableOf
   opens = few-open (λ p x. isOpen (x .state) (held p tb)) (λ q. refl) 1 os (transactionPlaces - length os)
 
-  nonzero : (t : List ℕ) → isZero t ≡ false → t ≡ zeroId → ⊥
-  nonzero t z e = absurd (no-clash (isZero t) (equal-zero t e) z)
-
   pub reopened-sound : Sound tb
   unfolding tableOf
   reopened-sound = record {
     states = well;
     kinds = λ x m h. let w : StandsAt 1 os no-transactions x = of-held-ones x m h in (inr (inr (kind-is x w)), omega (arith, ap (λ (y : Enlistment). y .mark) (w .is)));
     transaction-identifiers = λ x m l. by-either
-        (λ s. (ap (λ (y : Transaction). length (y .id .0)) (s .holds) ∙ k .id-sizes (s .it) (s .there), λ e. nonzero (s .it .id) (k .ids (s .it) (s .there)) (sym (ap (λ (y : Transaction). y .id .0) (s .holds)) ∙ e)))
+        (λ s. subst (λ (y : Transaction). Identifier (y .id .0)) (sym (s .holds)) (nonzero-identifier (s .it .id) (k .id-sizes (s .it) (s .there)) (k .ids (s .it) (s .there))))
         (λ e. absurd (l (ap (λ (y : Transaction). y .state) e))) (of-transactions x m);
     manager-identifiers = λ x m h. let w : StandsAt 1 os no-transactions x = of-held-ones x m h in
-        (ap (λ (y : Enlistment). length (y .rm .0)) (w .is) ∙ k .entries (w .o) (w .open-one) .valid (w .d) (w .entry) .rm-size, λ e. nonzero (w .d .rm) (k .entries (w .o) (w .open-one) .managers (w .d) (w .entry)) (sym (ap (λ (y : Enlistment). y .rm .0) (w .is)) ∙ e));
+        subst (λ (y : Enlistment). Identifier (y .rm .0)) (sym (w .is)) (nonzero-identifier (w .d .rm) (k .entries (w .o) (w .open-one) .valid (w .d) (w .entry) .rm-size) (k .entries (w .o) (w .open-one) .managers (w .d) (w .entry)));
     numbers = λ x m h. let w : StandsAt 1 os no-transactions x = of-held-ones x m h in
         (λ e. k .entries (w .o) (w .open-one) .numbers (w .d) (w .entry) (sym (ap (λ (y : Enlistment). y .number) (w .is)) ∙ e), rw (ap (λ (y : Enlistment). y .number) (w .is)) (k .entries (w .o) (w .open-one) .valid (w .d) (w .entry) .number-small));
     transactions-differ = rw live-ones (apart-map reopened os (k .ids-apart));

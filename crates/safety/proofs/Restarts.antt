@@ -13,7 +13,7 @@ use borrow.Author.Tests.{eqb-false, eq-eqb, ne-eqb, ltb-true, ltb-false}
 use Rattle.lists.specs.Lists.{filter}
 use Rattle.lists.specs.Members.{_∈_, Each, Some}
 use Rattle.lists.specs.Places.{placeFrom, atFrom}
-use Rattle.lists.proofs.Tests.{by-test, no-clash, of-map}
+use Rattle.lists.proofs.Tests.{by-cases, by-test, no-clash, of-map, each-front}
 use Rattle.rules.specs.declared.Transaction.{Transaction}
 use Rattle.rules.specs.declared.Table.{Table}
 use Rattle.rules.specs.TransactionState as transaction
@@ -30,9 +30,8 @@ use Rattle.rules.proofs.Frames.{in-held, none-absent}
 use Rattle.safety.proofs.Alone.{Story, none, open-with, closed, bad, out, committing, Waits, managersOf}
 use Rattle.safety.proofs.Cut.{Restored}
 use Rattle.safety.proofs.Top.{Restores}
-use Rattle.safety.proofs.Story.{story, storyOf, Formed, header-formed, story-formed, valid-front, mine, Tells, tells}
+use Rattle.safety.proofs.Story.{story, storyOf, Formed, header-formed, story-formed, mine, nothing-mine, Tells, tells}
 use Rattle.safety.proofs.View.{viewOf, view-absent}
-use Rattle.safety.proofs.Own.{by-cases}
 
 -- ── the table of a restart ──────────────────────────────────────────────────────────────────────────────────────
 
@@ -140,10 +139,6 @@ short disk log h = record {
   restored = λ t. rw (short-story t disk (omega arith)) (fresh-view t (length log));
 }
 
-nothing-mine : (t : Id) → mine t [] ≡ []
-unfolding mine filter
-nothing-mine t = refl
-
 story-is : (t : Id) (bs : List ℕ) → storyOf t bs ≡ story t none (scan 0 (drop headerSize bs))
 unfolding storyOf
 story-is t bs = refl
@@ -160,7 +155,7 @@ module _ (disk spare rest : List ℕ) (f : Formed (disk ++ rest)) (h : headerSiz
   rs = parts .kept
 
   pub ok : Each Valid rs
-  ok = valid-front rs (parts .lost) (subst (Each Valid) (parts .records) (f .valid))
+  ok = each-front rs (parts .lost) (subst (Each Valid) (parts .records) (f .valid))
 
   pub scan-is : scan 0 body ≡ rs
   scan-is = ap (scan 0) (parts .bytes) ∙ scan-all rs ok (parts .is-torn)

@@ -10,11 +10,12 @@ use Rattle.rules.specs.declared.Name.the-variants as name
 use Rattle.rules.specs.declared.Reply.the-variants as reply
 use Rattle.rules.specs.Log.{header}
 use Rattle.rules.specs.Signals.{Committed, Aborted}
+use Rattle.rules.specs.Words.{id, begin, commit, rollback, reply, ask}
 use Rattle.safety.specs.World.{Issued, World, empty, afterLeaving}
 use Rattle.safety.specs.Host.{careful, now}
 use Rattle.safety.specs.Run.{Run, start, store, trim, leave}
 use Rattle.safety.specs.Demand3.{About}
-use Rattle.safety.specs.Words.{id, begin, enlist, enlistSingle, commit, rollback, replies, ask, spare}
+use Rattle.safety.specs.Words.{enlist, enlistSingle, spare}
 use Rattle.safety.proofs.Played.{does, restarts, issued, record-of-7, commit-of-7, decided, decides, playing}
 
 -- a run reaches a world in which a message about 7 has left whose name is P
@@ -40,7 +41,7 @@ two-phase = sends Committed (store decided-carefully (header ++ record-of-7) (he
 pub single-phase : Sends Committed
 unfolding playing
 single-phase = sends Committed (store (does (does (does (does (restarts start (spare, refl, refl))
-    (begin 7) (refl, refl) (λ m. List·Memᴰ·not-nil m)) (enlistSingle 7 1 21) (refl, refl) tt) (commit 7) (refl, refl) tt) (replies 1 reply.Committed) (refl, refl) tt)
+    (begin 7) (refl, refl) (λ m. List·Memᴰ·not-nil m)) (enlistSingle 7 1 21) (refl, refl) tt) (commit 7) (refl, refl) tt) (reply 1 reply.Committed) (refl, refl) tt)
     header (header, [], refl, refl)) (issued header name.AppCommitted 0) (List·Memᴰ·head refl) ([], refl) (refl, inr (inl refl))
 
 -- ── through a cut, a restart and an ask ─────────────────────────────────────────────────────────────────────────

@@ -3,7 +3,7 @@
 use Prim.Native.Nat.{ℕ}
 use native.Mathlib.Omega.{arith}
 use mathlib.Core.Path.{_≡_, refl, sym, _∙_, ap, subst}
-use mathlib.Core.Logic.{_⊎_, inl, inr}
+use mathlib.Core.Logic.{_⊎_}
 use mathlib.Core.Bool.{true, false, not, _||_}
 use mathlib.Core.List.{List, _++_, map}
 use lib.ListN.{length, take}
@@ -11,7 +11,7 @@ use lib.Dec.{eqb, leb}
 use borrow.Author.Tests.{eqb-true, eqb-false}
 use Rattle.lists.specs.Lists.{any, none}
 use Rattle.lists.specs.Members.{Each}
-use Rattle.lists.proofs.Tests.{by-test, by-either, no-clash, is-false, true-or, false-or, not-false}
+use Rattle.lists.proofs.Tests.{by-test, no-clash, is-false, false-or, not-false}
 use Rattle.rules.specs.declared.Table.{Table}
 use Rattle.rules.specs.declared.TxId.{TxId}
 use Rattle.rules.specs.declared.RmId.{RmId}
@@ -49,7 +49,8 @@ use Rattle.safety.proofs.Own.{Own}
 use Rattle.safety.proofs.Reactions.{Reacts, reacts-zero-done, reacts-vote, reacts-reply, reacts-ack, reacts-to-lost}
 use Rattle.safety.proofs.Calls.{own-begin, own-enlist, own-commit, own-rollback, own-ask}
 use Rattle.safety.proofs.Ends.{forgets, each-valid, each-bytes}
-use Rattle.safety.proofs.Reenlisted.{after, ps, reenlisted-is, roomy-after, reenlisted-move, reenlisted-judged}
+use Rattle.safety.proofs.Reenlisted.{after, ps, reenlisted-is, roomy-after, finished-places, reenlisted-move, reenlisted-judged}
+use Rattle.rules.proofs.Own.{active-or-zero}
 
 -- ── notes of one transaction are calm for every other ───────────────────────────────────────────────────────────
 
@@ -146,10 +147,10 @@ reenlisted-all tb x y log s full f = rw (reenlisted-is (y .0) tb log s full) (re
     rs = forgets places table log
 
     valid : Each Valid rs
-    valid = each-valid places table log (roomy-after (y .0) tb log s full)
+    valid = each-valid places table log (roomy-after (y .0) tb log s full) (finished-places (y .0) tb log s full)
 
     bytes : take (endEach places table log .table .used) (endEach places table log .log) ≡ take (tb .used) log ++ allBytes rs
-    bytes = each-bytes places table log (roomy-after (y .0) tb log s full)
+    bytes = each-bytes places table log (roomy-after (y .0) tb log s full) (finished-places (y .0) tb log s full)
 
 -- ── every event ─────────────────────────────────────────────────────────────────────────────────────────────────
 
@@ -168,8 +169,7 @@ module _ (tb : Table) (x : TxId) (y : RmId) (log : List ℕ) (f : Formed (usedPa
   place = placeNamed (x .0) tb
 
   early-state : (not (eqb (stateAt place tb) transaction.active || eqb (stateAt place tb) transaction.phaseZero) || false) ≡ false → (stateAt place tb ≡ transaction.active) ⊎ (stateAt place tb ≡ transaction.phaseZero)
-  early-state q = by-either (λ w. inl (eqb-true (stateAt place tb) transaction.active w)) (λ w. inr (eqb-true (stateAt place tb) transaction.phaseZero w))
-      (true-or (eqb (stateAt place tb) transaction.active) (eqb (stateAt place tb) transaction.phaseZero) (not-false (eqb (stateAt place tb) transaction.active || eqb (stateAt place tb) transaction.phaseZero) (false-or (not (eqb (stateAt place tb) transaction.active || eqb (stateAt place tb) transaction.phaseZero)) false q .0)))
+  early-state q = active-or-zero (stateAt place tb) (false-or (not (eqb (stateAt place tb) transaction.active || eqb (stateAt place tb) transaction.phaseZero)) false q .0)
 
   -- an event about one enlistment
   reacted : (n : ℕ) (a : Act) (c : checks.Accepted tb (event a) (length log)) → eqb n 0 ≡ false → not (isNumberHeld n tb) ≡ false → isRefused (reactionOf (numbered n tb .kind) (numbered n tb .state) a) ≡ false

@@ -5,19 +5,21 @@ use native.Mathlib.Omega.{arith}
 use native.Mathlib.Decide.{decLe}
 use mathlib.Core.Path.{_≡_, refl, sym, _∙_, ap}
 use mathlib.Core.Bool.{true, false, cond, not, _&&_}
-use mathlib.Core.List.{List, [], _∷_, _++_, append-assoc, append-nil, List·Memᴰ·append-cases, Memᴰ·append-left}
+use mathlib.Core.List.{List, [], _∷_, _++_, append-assoc, append-nil}
 use lib.ListN.{length, drop, drop-of-length-le}
 use lib.Seq.{drop-append-le}
 use Rattle.lists.specs.Lists.{filter}
 use Rattle.lists.specs.Members.{Each}
-use Rattle.lists.proofs.Tests.{by-test, by-either, no-clash, each-nothing, each-head, each-rest, filter-append, filter-filter, filter-same, filter-none}
+use Rattle.lists.proofs.Tests.{by-test, no-clash, each-nothing, each-head, each-rest, filter-append, filter-filter, filter-same, filter-none, each-both}
 use Rattle.rules.specs.Identifiers.{Id, sameBytes}
 use Rattle.rules.specs.Sizes.{headerSize}
 use Rattle.rules.specs.Log.{Entry, Record, header, allBytes, scan}
 use Rattle.rules.specs.Restart.{Open, isOpenAs, afterRecord, openAfter}
 use Rattle.rules.proofs.Identifiers.{same-refl, same-equal}
 use Rattle.rules.proofs.Records.{Valid, valid-commit, torn-nothing, scan-all, Begins, scan-longer, all-append}
-use Rattle.safety.proofs.Alone.{Story, none, open-with, closed, bad, Below, below-refl, below-trans}
+use Rattle.safety.proofs.Alone.{Story, none, open-with, closed, bad, Below, below-refl, below-trans, RecordOrNone, NoDurable}
+use Rattle.rules.specs.declared.Enlistment.{Enlistment}
+use mathlib.Core.Logic.{inl, inr}
 
 -- ── stories ─────────────────────────────────────────────────────────────────────────────────────────────────────
 
@@ -32,6 +34,11 @@ onForget none = bad
 onForget (open-with qs) = closed
 onForget closed = bad
 onForget bad = bad
+
+-- a forget record closes the story of a transaction in Committing that has its record
+pub forgotten : (es : List Enlistment) (l : Story) → RecordOrNone l es → (NoDurable es → ⊥) → onForget l ≡ closed
+forgotten es l (inl (rs, q, d, n)) f = rw q refl
+forgotten es l (inr (q, n)) f = absurd (f n)
 
 unfoldable pub next : Id → Story → Record → Story
 next t s (Record.commit u es) = cond (sameBytes u t) (onCommit s es) s
@@ -97,16 +104,10 @@ pub story-formed : (t : Id) (bs : List ℕ) (f : Formed bs) → storyOf t bs ≡
 unfolding storyOf
 story-formed t bs f = ap (λ l. story t none (scan 0 (drop headerSize l))) (f .bytes) ∙ ap (λ l. story t none (scan 0 l)) (sym (append-nil (allBytes (f .records)))) ∙ ap (story t none) (scan-all (f .records) (f .valid) torn-nothing)
 
-pub valid-both : (a b : List Record) → Each Valid a → Each Valid b → Each Valid (a ++ b)
-valid-both a b v w r m = by-either (v r) (w r) (List·Memᴰ·append-cases a m)
-
-pub valid-front : (a b : List Record) → Each Valid (a ++ b) → Each Valid a
-valid-front a b v r m = v r (Memᴰ·append-left b m)
-
 pub formed-append : (bs : List ℕ) (f : Formed bs) (rs : List Record) → Each Valid rs → Formed (bs ++ allBytes rs)
 formed-append bs f rs v = record {
   records = f .records ++ rs;
-  valid = valid-both (f .records) rs (f .valid) v;
+  valid = each-both (f .records) rs (f .valid) v;
   bytes = ap (λ l. l ++ allBytes rs) (f .bytes) ∙ append-assoc header (allBytes (f .records)) (allBytes rs) ∙ ap (λ l. header ++ l) (sym (all-append (f .records) rs));
 }
 
@@ -119,6 +120,10 @@ story-more t bs f rs v = story-formed t (bs ++ allBytes rs) (formed-append bs f 
 module _ (t : Id) where
   unfoldable pub mine : List Open → List Open
   mine os = filter (isOpenAs t) os
+
+  pub nothing-mine : mine [] ≡ []
+  unfolding mine filter
+  nothing-mine = refl
 
   abbrev pub Tells : Story → List Open → Type 0
   Tells none os = mine os ≡ []

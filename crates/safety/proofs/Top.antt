@@ -9,11 +9,10 @@ use mathlib.Core.List.{List, [], _∷_, _++_, map, List·Memᴰ·not-nil, append
 use lib.Dec.{eqb}
 use borrow.Author.Tests.{eqb-true}
 use lib.ListN.{length, take}
-use Rattle.lists.specs.Members.{_∈_, Some}
+use Rattle.lists.specs.Members.{_∈_}
 use Rattle.rules.specs.declared.Table.{Table}
 use Rattle.rules.specs.declared.Event.{Event}
 use Rattle.rules.specs.declared.Name.{Name}
-use Rattle.rules.specs.Sound.{Durable}
 use Rattle.rules.specs.Identifiers.{Id}
 use Rattle.rules.specs.Log.{Entry}
 use Rattle.rules.specs.Step.{Step, stepOf}
@@ -23,8 +22,8 @@ use Rattle.safety.specs.Host.{MayAsk, careful, Makes, MoreStored, Trimme
 use Rattle.safety.specs.Run.{Run, start, step, store, trim, leave, restart}
 use Rattle.rules.specs.Signals.{Committed, Aborted}
 use Rattle.safety.specs.Demand3.{Safe, Demand3}
-use Rattle.safety.proofs.Alone.{Story, none, open-with, bad, Below, below-trans, below-both, View, out, early, voting, single, committing, aborting, NoDurable, Entered, Any, Base, Shape}
-use Rattle.safety.proofs.Move.{nothing-calm, Quiet, Move, keep-base, keep-shape, make-stay, stay-shape}
+use Rattle.safety.proofs.Alone.{Story, none, open-with, bad, Below, below-trans, below-both, View, out, early, voting, single, committing, aborting, RecordOrNone, Any, Base, Shape}
+use Rattle.safety.proofs.Move.{nothing-calm, quiet-nothing, Move, keep-base, keep-shape, make-stay, stay-shape}
 use Rattle.safety.proofs.Cut.{Restored, keep-store, keep-leave, shape-leave, keep-restart, shape-restart}
 
 -- ── what has to be shown ────────────────────────────────────────────────────────────────────────────────────────
@@ -35,7 +34,7 @@ Agrees out l = (rs : List Entry) → l ≡ open-with rs → ⊥
 Agrees (early es) l = l ≡ none
 Agrees (voting es) l = l ≡ none
 Agrees (single es) l = l ≡ none
-Agrees (committing es) l = ((rs : List Entry) × (l ≡ open-with rs) × Some Durable es × Entered rs es) ⊎ ((l ≡ none) × NoDurable es)
+Agrees (committing es) l = RecordOrNone l es
 Agrees aborting l = l ≡ none
 
 pub record Refused (tb : Table) (log : List ℕ) (s : Step) : Type 0 where
@@ -106,9 +105,6 @@ module _ (R : Refines) where
   abbrev pub Always : World → Type 0
   Always w = Alive w ⊎ Dead w
 
-  silent-quiet : (t : Id) → Quiet t []
-  silent-quiet t = record { no-committed = λ m. List·Memᴰ·not-nil (m .there); no-aborted = λ m. List·Memᴰ·not-nil (m .there) }
-
   pub agrees : (t : Id) (v : View) (l : Story) (h : List Note) (waiting sent : List Issued) (issued : List Message) → Shape t v l h waiting sent issued → Agrees v l
   agrees t out l h waiting sent issued s = s .not-open
   agrees t (early es) l h waiting sent issued s = s .undecided .log-none
@@ -125,8 +121,8 @@ module _ (R : Refines) where
   refused-alive w e s r f a = rw (r, f .table-kept, f .log-kept, f .silent) (record {
     formed = a .formed;
     stored = a .stored;
-    base = λ t. make-stay t (storyOf t) (storyOf t (w .disk)) (storyOf t (usedPart (w .table) (w .log))) (storyOf t (usedPart (w .table) (w .log))) (w .notes) Note.nothing [] (w .issued) (w .waiting) (w .sent) (usedPart (w .table) (w .log)) refl (a .base t) (nothing-calm t) (silent-quiet t) refl;
-    shape = λ t. stay-shape t (storyOf t) (storyOf t (w .disk)) (storyOf t (usedPart (w .table) (w .log))) (storyOf t (usedPart (w .table) (w .log))) (w .notes) Note.nothing [] (w .issued) (w .waiting) (w .sent) (usedPart (w .table) (w .log)) refl (viewOf t (w .table)) refl (nothing-calm t) (silent-quiet t) (a .shape t);
+    base = λ t. make-stay t (storyOf t) (storyOf t (w .disk)) (storyOf t (usedPart (w .table) (w .log))) (storyOf t (usedPart (w .table) (w .log))) (w .notes) Note.nothing [] (w .issued) (w .waiting) (w .sent) (usedPart (w .table) (w .log)) refl (a .base t) (nothing-calm t) (quiet-nothing t) refl;
+    shape = λ t. stay-shape t (storyOf t) (storyOf t (w .disk)) (storyOf t (usedPart (w .table) (w .log))) (storyOf t (usedPart (w .table) (w .log))) (w .notes) Note.nothing [] (w .issued) (w .waiting) (w .sent) (usedPart (w .table) (w .log)) refl (viewOf t (w .table)) refl (nothing-calm t) (quiet-nothing t) (a .shape t);
   })
 
   refused-dead : (w : World) (e : Event) (s : Step) → eqb (s .refusal) 0 ≡ false → Refused (w .table) (w .log) s → Dead w → Dead (afterStep w (w .table) e s)
@@ -134,7 +130,7 @@ module _ (R : Refines) where
   refused-dead w e s r f a = rw (r, f .table-kept, f .log-kept, f .silent) (record {
     none-used = a .none-used;
     stored = a .stored;
-    base = λ t. make-stay t (storyOf t) (storyOf t (w .disk)) (storyOf t (w .disk)) (storyOf t (w .disk)) (w .notes) Note.nothing [] (w .issued) (w .waiting) (w .sent) (w .disk) refl (a .base t) (nothing-calm t) (silent-quiet t) refl;
+    base = λ t. make-stay t (storyOf t) (storyOf t (w .disk)) (storyOf t (w .disk)) (storyOf t (w .disk)) (w .notes) Note.nothing [] (w .issued) (w .waiting) (w .sent) (w .disk) refl (a .base t) (nothing-calm t) (quiet-nothing t) refl;
   })
 
   accepted-alive : (w : World) (e : Event) (s : Step) → eqb (s .refusal) 0 ≡ true → Makes careful (w .notes) e → Accepted viewOf storyOf Formed (w .table) e (w .log) s → Alive w → Alive (afterStep w (w .table) e s)

@@ -16,8 +16,9 @@ use Rattle.rules.specs.declared.Table.{Table}
 use Rattle.rules.specs.TransactionState as transaction
 use Rattle.rules.specs.Identifiers.{Id}
 use Rattle.rules.specs.Table.{noTransaction, isNamed, placeNamed, transactionAt, stateAt, held, inTransactionState, freed, ended, changeHeld, changeTransaction, goTo, emptied, useMore}
-use Rattle.rules.proofs.Frames.{Keeps, held-other, held-transaction, Stands, Absent, stands-place, absent-place, named-found, named-other, at-other, place-kept, state-goes, stands-goes, other-goes, absent-ended}
+use Rattle.rules.proofs.Frames.{Keeps, held-other, held-transaction, Stands, Absent, stands-place, absent-place, named-found, named-other, at-other, place-kept, state-goes, stands-goes, other-goes, absent-ended, same-place}
 use Rattle.safety.proofs.Alone.{View, out, early, voting, single, committing, aborting}
+use Rattle.rules.proofs.Only.{Only}
 
 abbrev pub look : ℕ → List Enlistment → View
 look zero hs = out
@@ -56,6 +57,16 @@ view-same u tb tb′ e f = rw e (by-test (eqb (placeNamed u tb) 0)
     (λ z. rw (f (eqb-false (placeNamed u tb) 0 z) .0, f (eqb-false (placeNamed u tb) 0 z) .1) refl))
 
 -- a change at p is none of a transaction that stands elsewhere
+pub view-only : (u : Id) (p : ℕ) (tb tb′ : Table) → Only p tb tb′ → isNamed u (transactionAt p tb) ≡ false → isNamed u (transactionAt p tb′) ≡ false → viewOf u tb′ ≡ viewOf u tb
+view-only u p tb tb′ o b a = view-same u tb tb′ (same-place u tb tb′ (o .as-many) named)
+    (λ n. (ap (λ (x : Transaction). x .state) (o .transactions (placeNamed u tb) (elsewhere n)), o .enlistments (placeNamed u tb) (elsewhere n) n))
+  where
+    named : (q : ℕ) → isNamed u (transactionAt q tb′) ≡ isNamed u (transactionAt q tb)
+    named q = by-test (eqb q p) (λ e. rw (eqb-true q p e) (a ∙ sym b)) (λ e. ap (isNamed u) (o .transactions q (eqb-false q p e)))
+
+    elsewhere : (placeNamed u tb ≡ 0 → ⊥) → placeNamed u tb ≡ p → ⊥
+    elsewhere n e = no-clash _ (ap (λ q. isNamed u (transactionAt q tb)) (sym e) ∙ named-found u tb n) b
+
 pub view-other : (u : Id) (p : ℕ) (f : Transaction → Transaction) (g : Enlistment → Enlistment) (tb : Table)
     → Keeps g → isNamed u (transactionAt p tb) ≡ false → isNamed u (f (transactionAt p tb)) ≡ false
     → viewOf u (changeTransaction p f (changeHeld p g tb)) ≡ viewOf u tb
