@@ -273,7 +273,9 @@ def beginnings():
 
 
 def whole_records():
-    """In SEVEN the first RM ends at 41 and its number begins at 42; the second's are 61 and 62."""
+    """In SEVEN the first RM ends at 41 and its number begins at 42; the second's are 61 and 62; a third RM would end
+    at 81. Behind SEVEN a record's identifier begins at 68.
+    """
     whole("fine", SEVEN)
     whole("zero transaction", HEADER + commit(0, 2, 1, 21))
     whole("zero manager", with_byte(SEVEN, 41, 0))
@@ -282,10 +284,12 @@ def whole_records():
     whole("forget of one not open", SEVEN + forget(8))
     whole("forget of zero", SEVEN + forget(0))
     whole("forgotten twice", SEVEN + forget(7) + forget(7))
-    whole("not ascending", with_byte(SEVEN, 42, 2))
+    whole("another with the same last byte", with_byte(SEVEN + commit(7, 2, 3, 21), 68, 1))
+    whole("not ascending", with_byte(SEVEN, 42, 3))
     whole("the same number again", with_byte(SEVEN, 62, 1))
     whole("number of another open record", SEVEN + commit(8, 2, 2, 21))
     whole("a manager twice", with_byte(SEVEN, 61, 21))
+    whole("the first manager again", with_byte(HEADER + commit(7, 3, 1, 21), 81, 21))
 
 
 def torn():
@@ -301,6 +305,8 @@ def full():
     line("no room at all 66", log, 66, 66)
     line("exactly full 84", log, 84, 84)
     line("torn and full 83", log, 83, 83)
+    line("torn with room 84", log, 84, 83)
+    line("damaged and full 67", SEVEN + bytes([3]), 67, 67)
 
 
 def order():
@@ -308,6 +314,7 @@ def order():
     log = SEVEN + commit(5, 1, 3, 21) + forget(7)
     log += commit(6, 2, 1, 31) + commit(7, 1, 9, 21) + forget(6)
     log += commit(8, 1, LARGEST_NUMBER, 21) + forget(8)
+    line("two are open 104", log, 4096, 104)
     line("one is left 122", log, 4096, 122)
     line("numbers again 180", log, 4096, 180)
     line("reopened 218", log, 4096, 218)
@@ -321,11 +328,21 @@ def opened(transactions, each):
     return HEADER + b"".join(commit(t + 1, each, 1 + each * t, 1) for t in range(transactions))
 
 
-def most():
+def four():
+    whole("the first one ends", opened(4, 1) + forget(1))
+
+
+def most_open():
     whole("open", opened(32, 1))
     whole("open", opened(33, 1))
+    whole("open and the first ends", opened(33, 1) + forget(1))
+
+
+def most_entries():
     whole("entries", opened(8, 16))
-    whole("entries", opened(8, 16) + commit(200, 1, 129, 1))
+    more = opened(8, 16) + commit(200, 1, 129, 1)
+    whole("entries", more)
+    whole("entries and the first ends", more + forget(1))
 
 
 def many():
@@ -340,5 +357,7 @@ whole_records()
 torn()
 full()
 order()
-most()
+four()
+most_open()
+most_entries()
 many()
