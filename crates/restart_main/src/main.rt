@@ -18,7 +18,9 @@ fn main() {
     torn();
     full();
     order();
-    most();
+    four();
+    most_open();
+    most_entries();
     many();
 }
 
@@ -164,6 +166,14 @@ fn forgotten_twice() {
     judged(twice);
 }
 
+// The two transactions differ in the first byte alone.
+fn committed_another() {
+    let made = seven();
+    let both = logs::with_commit(made, 7, 2, 3, 21);
+    let other = logs::with_byte(both, 68, 1);
+    judged(other);
+}
+
 fn open_or_not() {
     shown::say(b"commit of an open one ");
     committed(7, 3);
@@ -173,17 +183,29 @@ fn open_or_not() {
     forgotten(0);
     shown::say(b"forgotten twice ");
     forgotten_twice();
+    shown::say(b"another with the same last byte ");
+    committed_another();
+}
+
+// Three entries, the third with the resource manager of the first.
+fn first_manager_again() {
+    let made = logs::empty();
+    let three = logs::with_commit(made, 7, 3, 1, 21);
+    let other = logs::with_byte(three, 81, 21);
+    judged(other);
 }
 
 fn numbers_and_managers() {
     shown::say(b"not ascending ");
-    two(7, 1, 42, 2);
+    two(7, 1, 42, 3);
     shown::say(b"the same number again ");
     two(7, 1, 62, 1);
     shown::say(b"number of another open record ");
     committed(8, 2);
     shown::say(b"a manager twice ");
     two(7, 1, 61, 21);
+    shown::say(b"the first manager again ");
+    first_manager_again();
 }
 
 // The first commit record is whole; then a commit record and a forget record, of which the first n bytes of the log are stored.
@@ -210,6 +232,13 @@ fn limited(capacity: u8, stored: u8) {
     shown::restarted(last, capacity as u64, capacity as usize, stored as usize);
 }
 
+// A byte that no record begins with, where there is no room for the forget record.
+fn damaged() {
+    let made = seven();
+    let other = logs::with_byte(made, 66, 3);
+    shown::restarted(other, 67, 67, 67);
+}
+
 fn full() {
     shown::say(b"room for its forget record ");
     limited(84, 66);
@@ -221,6 +250,10 @@ fn full() {
     limited(84, 84);
     shown::say(b"torn and full ");
     limited(83, 83);
+    shown::say(b"torn with room ");
+    limited(84, 83);
+    shown::say(b"damaged and full ");
+    damaged();
 }
 
 // Reopened transactions, and numbers used again: eight records, stored up to the end of one of them.
@@ -237,6 +270,8 @@ fn stored_to(end: usize) {
 }
 
 fn order() {
+    shown::say(b"two are open ");
+    stored_to(104);
     shown::say(b"one is left ");
     stored_to(122);
     shown::say(b"numbers again ");
@@ -251,17 +286,8 @@ fn order() {
     stored_to(292);
 }
 
-fn more_entries(made: Made, number: u32, more: u8) {
-    if 0 < more {
-        let last = logs::with_commit(made, 200, more, number, 1);
-        judged(last);
-    } else {
-        judged(made);
-    }
-}
-
-// So many open transactions, each with so many entries; then one more with the entries that are left.
-fn opened(transactions: u8, each: u8, more: u8) {
+// So many open transactions, from 1 on, each with so many entries; the numbers go up from 1 over all of them.
+fn opened(transactions: u8, each: u8) -> Made {
     let mut made = logs::empty();
     let mut number: u32 = 1;
     let mut t: u8 = 0;
@@ -271,18 +297,41 @@ fn opened(transactions: u8, each: u8, more: u8) {
         made = one;
         number = logs::up(number, each);
     }
-    more_entries(made, number, more);
+    made
 }
 
-fn most() {
+// Behind them the forget record of the first.
+fn first_ended(made: Made) {
+    let last = logs::with_forget(made, 1);
+    judged(last);
+}
+
+fn four() {
+    let made = opened(4, 1);
+    shown::say(b"the first one ends ");
+    first_ended(made);
+}
+
+fn most_open() {
+    let made = opened(32, 1);
     shown::say(b"open ");
-    opened(32, 1, 0);
+    judged(made);
+    let more = opened(33, 1);
     shown::say(b"open ");
-    opened(33, 1, 0);
+    judged(more);
+    shown::say(b"open and the first ends ");
+    first_ended(more);
+}
+
+fn most_entries() {
+    let made = opened(8, 16);
     shown::say(b"entries ");
-    opened(8, 16, 0);
+    judged(made);
+    let more = logs::with_commit(made, 200, 1, 129, 1);
     shown::say(b"entries ");
-    opened(8, 16, 1);
+    judged(more);
+    shown::say(b"entries and the first ends ");
+    first_ended(more);
 }
 
 // Closed records nearly to the end of the largest log, and an open one behind them.

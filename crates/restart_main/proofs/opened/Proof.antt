@@ -8,8 +8,8 @@ pub opened-spec : {M : Type 1} → statement M
 opened-spec =
     tie.close
     (tie.spec
-    (λ transactions each more made₀ number₀ t₀ made number t. t ≤ transactions)
-    (λ transactions each more made₀ number₀ t₀ made number t. transactions - t)
+    (λ transactions each made₀ number₀ t₀ made number t. t ≤ transactions)
+    (λ transactions each made₀ number₀ t₀ made number t. transactions - t)
     (λ c κs. search needs)
     (λ c. search needs)
     (λ c. search needs)
@@ -17,5 +17,4 @@ opened-spec =
     (λ c κs. search needs)
     (λ c. search needs)
     (λ c. search needs)
-    (λ c κs. search needs)
     (λ c. search needs))
