@@ -8,7 +8,7 @@ use mathlib.Core.List.{List, [], _∷_, _++_, map, append-assoc}
 use lib.Dec.{ltb, leb}
 use lib.ListN.{length, take, drop, length-append, length-map, length-drop, take-append-drop}
 use lib.Seq.{length-take-le, take-nil, take-take, take-append-le, take-append-add}
-use borrow.Author.Tests.{ltb-true, ltb-false, leb-true, le-ltb, le-leb}
+use borrow.Author.Tests.{ltb-true, ltb-false, leb-true, le-ltb, le-leb, lt-ltb}
 use Rattle.lists.specs.Members.{Each}
 use Rattle.lists.proofs.Tests.{by-test, true-and, and-true, false-or, not-false}
 use Rattle.rules.specs.Sizes.{headerSize, leastCapacity, largestCapacity}
@@ -108,14 +108,20 @@ inside log stored e =
     let q = false-or (ltb (length log) leastCapacity) (ltb largestCapacity (length log)) (p .0) in
     record { least = ltb-false _ _ (q .0); most = ltb-false _ _ (q .1); below = ltb-false _ _ (p .1) }
 
-not-outside : (log : List ℕ) (stored : ℕ) → Inside log stored → isOutside log stored ≡ false
+pub not-outside : (log : List ℕ) (stored : ℕ) → Inside log stored → isOutside log stored ≡ false
 not-outside log stored i =
     rw (le-ltb (length log) leastCapacity (i .least), le-ltb largestCapacity (length log) (i .most), le-ltb (length log) stored (i .below))
 
 abbrev pub bodyOf : List ℕ → ℕ → List ℕ
 bodyOf log stored = drop headerSize (take stored log)
 
-read-is : (log : List ℕ) (stored : ℕ) → isOutside log stored ≡ false → headerSize ≤ stored → sameBytes (take headerSize log) header ≡ true → restartOf log stored ≡ readBack (bodyOf log stored) log
+-- of less than a header, which begins it
+pub fresh-is : (log : List ℕ) (stored : ℕ) → isOutside log stored ≡ false → stored < headerSize → sameBytes (take stored log) (take stored header) ≡ true
+    → restartOf log stored ≡ doneRestart (freshOf (length log)) (header ++ drop headerSize log)
+unfolding restartOf
+fresh-is log stored o h s = rw (o, lt-ltb stored headerSize h, s)
+
+pub read-is : (log : List ℕ) (stored : ℕ) → isOutside log stored ≡ false → headerSize ≤ stored → sameBytes (take headerSize log) header ≡ true → restartOf log stored ≡ readBack (bodyOf log stored) log
 unfolding restartOf
 read-is log stored o h s = rw (o, le-ltb stored headerSize h, s)
 
@@ -132,7 +138,7 @@ accepted log stored e = by-test (isOutside log stored)
     (λ o. absurd (omega (arith, rw o at e)))
     (λ o. by-test (ltb stored headerSize)
     (λ h. by-test (sameBytes (take stored log) (take stored header))
-    (λ s. fresh (inside log stored o) (ltb-true _ _ h) (rw (o, h, s)))
+    (λ s. fresh (inside log stored o) (ltb-true _ _ h) (fresh-is log stored o (ltb-true _ _ h) s))
     (λ s. absurd (omega (arith, rw (o, h, s) at e))))
     (λ h. by-test (sameBytes (take headerSize log) header)
     (λ s. by-test (isDamaged (bodyOf log stored))

@@ -4,30 +4,30 @@ use Prim.Native.Nat.{ℕ, _+_, _*_, _-_, _≤_, _<_}
 use native.Mathlib.Omega.{arith}
 use mathlib.Core.Path.{_≡_, refl, sym, _∙_, ap, subst}
 use mathlib.Core.Logic.{_⊎_, inl, inr}
-use mathlib.Core.Bool.{true, false, not, _||_}
+use mathlib.Core.Bool.{true, false, not}
 use mathlib.Core.List.{List, [], _∷_, _++_, map, append-assoc}
 use lib.ListN.{length, take, drop, replicate, length-append, length-map, length-drop, length-replicate}
 use lib.Seq.{length-take-le, take-append-le, take-append-seam}
 use lib.Dec.{eqb, ltb}
-use borrow.Author.Tests.{le-ltb, ltb-true, ltb-false, eq-eqb}
+use borrow.Author.Tests.{le-ltb, ltb-true, ltb-false, eqb-true}
 use Rattle.lists.specs.Lists.{filter}
 use Rattle.lists.specs.Members.{Each, Apart}
-use Rattle.lists.proofs.Tests.{by-cases, by-test, by-either, no-clash, is-false, and-true, true-and, or-false, false-or, not-false, false-not, each-nothing, each-head, each-rest, filter-all, each-both, each-back}
+use Rattle.lists.proofs.Tests.{by-cases, by-test, by-either, no-clash, is-false, and-true, true-and, or-false, false-not, each-nothing, each-head, each-rest, filter-all, each-both, each-back}
 use Rattle.lists.proofs.Apart.{apart-head, apart-rest}
 use Rattle.rules.specs.declared.Table.{Table}
 use Rattle.rules.specs.declared.Event.{Event}
 use Rattle.rules.specs.Sizes.{headerSize, recordSize, transactionPlaces, enlistmentPlaces, leastCapacity, largestCapacity}
-use Rattle.rules.specs.Identifiers.{Id, sameBytes}
+use Rattle.rules.specs.Identifiers.{Id}
 use Rattle.rules.specs.Table.{noTransaction, noEnlistment, freshOf}
 use Rattle.rules.specs.Sound.{soundOf, Sound}
 use Rattle.rules.specs.Log.{Record, header, recordBytes, allBytes, forgetSize, scan, behind, beginsNone}
 use Rattle.rules.specs.RefusalNumber as refusal
-use Rattle.rules.specs.Restart.{Open, isOpenAs, afterRecord, openAfter, isFitting, allFitting, entriesOpen, reopened, reenlistments, tableOf, Restart, refusedRestart, doneRestart, usedOf, isDamaged, isTooShort, readBack, isOutside, restartOf}
+use Rattle.rules.specs.Restart.{Open, isOpenAs, afterRecord, openAfter, isFitting, allFitting, entriesOpen, reopened, reenlistments, tableOf, Restart, doneRestart, usedOf, isDamaged, isTooShort, readBack, isOutside, restartOf}
 use Rattle.rules.specs.Step.{stepOf}
 use Rattle.rules.proofs.Identifiers.{same-equal, equal-same}
 use Rattle.rules.proofs.Records.{Valid, valid-forget, torn-begins, all-append}
 use Rattle.rules.proofs.Soundness.{sound-sentences, sentences-sound}
-use Rattle.rules.proofs.Restarts.{reenlistments-long}
+use Rattle.rules.proofs.Restarts.{reenlistments-long, not-outside, fresh-is, read-is, undamaged, Accepted, accepted}
 use Rattle.safety.specs.World.{World, usedPart, empty, afterStep, withDisk, afterLeaving, afterRestart}
 use Rattle.safety.specs.Host.{careful}
 use Rattle.safety.specs.Run.{Run, start, step, store, trim, leave, restart}
@@ -44,6 +44,8 @@ use Rattle.safety.proofs.Lengths.{Same, step-same}
 use Rattle.safety.proofs.Restarts as restarts
 use Rattle.safety.proofs.Restarts.{restart-refuses}
 use Rattle.safety.proofs.Safety.{refines}
+use Rattle.rules.proofs.Preserved.{fresh-sound}
+use Rattle.safety.proofs.Restarted.{of-accepted}
 
 -- ── room is never regained ──────────────────────────────────────────────────────────────────────────────────────
 
@@ -144,10 +146,6 @@ many-enlistments : (os : List Open) → length (entriesOpen os) ≤ enlistmentPl
 unfolding tableOf
 many-enlistments os h capacity used = length-append (reenlistments 1 os) (replicate (enlistmentPlaces - length (reenlistments 1 os)) noEnlistment) ∙ omega (arith, h, reenlistments-long 1 os, length-replicate (enlistmentPlaces - length (reenlistments 1 os)) noEnlistment)
 
-fresh-sound : (capacity : ℕ) → leastCapacity ≤ capacity → capacity ≤ largestCapacity → Sound (freshOf capacity)
-unfolding tableOf reenlistments
-fresh-sound capacity l m = reopened-sound capacity headerSize [] fit-nothing (omega arith) (omega arith) m
-
 fresh-readable : (log : List ℕ) → leastCapacity ≤ length log → length log ≤ largestCapacity → Readable (freshOf (length log)) (header ++ drop headerSize log)
 unfolding allBytes allFitting openAfter
 fresh-readable log l m = record {
@@ -186,14 +184,11 @@ module _ (disk spare rest : List ℕ) (f : Formed (disk ++ rest)) (h : headerSiz
   unfolding tableOf
   table-used capacity used qs = (refl, refl)
 
-  undamaged : isDamaged body ≡ false → allFitting [] rs ≡ true
-  undamaged d = rw (restarts.scan-is disk spare rest f h) at (not-false (allFitting [] (scan 0 body)) (false-or (beginsNone (behind 0 body)) (not (allFitting [] (scan 0 body))) d .1))
+  fits : isDamaged body ≡ false → allFitting [] rs ≡ true
+  fits d = rw (restarts.scan-is disk spare rest f h) at (undamaged body d)
 
   roomy : isTooShort body (length (disk ++ spare)) ≡ false → usedOf body + recordSize * length os ≤ length (disk ++ spare)
   roomy t = rw (restarts.scan-is disk spare rest f h) at (ltb-false (length (disk ++ spare)) (usedOf body + forgetSize * length (openAfter [] (scan 0 body))) t)
-
-  long-sound : isDamaged body ≡ false → isTooShort body (length (disk ++ spare)) ≡ false → length (disk ++ spare) ≤ largestCapacity → Sound (tableOf (length (disk ++ spare)) (usedOf body) (openAfter [] (scan 0 body)))
-  long-sound d t m = rw (restarts.scan-is disk spare rest f h) (reopened-sound (length (disk ++ spare)) (usedOf body) os (fit (undamaged d)) (omega arith) (roomy t) m)
 
   long-readable : isDamaged body ≡ false → isTooShort body (length (disk ++ spare)) ≡ false → leastCapacity ≤ length (disk ++ spare) → length (disk ++ spare) ≤ largestCapacity
       → Readable (tableOf (length (disk ++ spare)) (usedOf body) (openAfter [] (scan 0 body))) (disk ++ spare)
@@ -209,7 +204,7 @@ module _ (disk spare rest : List ℕ) (f : Formed (disk ++ rest)) (h : headerSiz
   })
     where
       fitting : allFitting [] rs ≡ true
-      fitting = undamaged d
+      fitting = fits d
 
   -- where the records fit and there is room for them, nothing is refused
   long-good : allFitting [] rs ≡ true → length (header ++ allBytes rs) + recordSize * length os ≤ length (disk ++ spare) → length (disk ++ spare) ≤ largestCapacity → Good (readBack body (disk ++ spare))
@@ -223,31 +218,10 @@ module _ (disk spare rest : List ℕ) (f : Formed (disk ++ rest)) (h : headerSiz
       enough : isTooShort body (length (disk ++ spare)) ≡ false
       enough = rw (restarts.scan-is disk spare rest f h, restarts.used-is disk spare rest f h) (le-ltb (length (disk ++ spare)) (length (header ++ allBytes rs) + forgetSize * length os) room)
 
-record Reads (s : Restart) : Type 0 where
-  gives : eqb (s .refusal) 0 ≡ true → Readable (s .table) (s .log)
-  sound : eqb (s .refusal) 0 ≡ true → Sound (s .table)
-
-refused-reads : (log : List ℕ) (why : ℕ) → eqb why 0 ≡ false → Reads (refusedRestart why log)
-refused-reads log why q = record { gives = λ e. no-clash (eqb why 0) e q; sound = λ e. no-clash (eqb why 0) e q }
-
-restart-reads : (disk spare rest : List ℕ) → Formed (disk ++ rest) → Reads (restartOf (disk ++ spare) (length disk))
-unfolding restartOf readBack
-restart-reads disk spare rest f = by-cases Reads (isOutside (disk ++ spare) (length disk)) _ _ (λ _. refused-reads (disk ++ spare) refusal.damagedLog refl) (λ b.
-    by-cases Reads (ltb (length disk) headerSize) _ _
-    (λ q. by-cases Reads (sameBytes (take (length disk) (disk ++ spare)) (take (length disk) header)) _ _
-    (λ _. record { gives = λ _. fresh-readable (disk ++ spare) (bounds b .0) (bounds b .1); sound = λ _. fresh-sound (length (disk ++ spare)) (bounds b .0) (bounds b .1) }) (λ _. refused-reads (disk ++ spare) refusal.damagedLog refl))
-    (λ q. by-cases Reads (sameBytes (take headerSize (disk ++ spare)) header) _ _
-    (λ _. subst (λ (l : List ℕ). Reads (readBack (drop headerSize l) (disk ++ spare))) (sym (take-append-seam disk spare))
-    (by-cases Reads (isDamaged (drop headerSize disk)) _ _ (λ _. refused-reads (disk ++ spare) refusal.damagedLog refl) (λ d. by-cases Reads (isTooShort (drop headerSize disk) (length (disk ++ spare))) _ _ (λ _. refused-reads (disk ++ spare) refusal.logTooShort refl)
-    (λ t. record { gives = λ _. long-readable disk spare rest f (ltb-false (length disk) headerSize q) d t (bounds b .0) (bounds b .1); sound = λ _. long-sound disk spare rest f (ltb-false (length disk) headerSize q) d t (bounds b .1) }))))
-    (λ _. refused-reads (disk ++ spare) refusal.damagedLog refl)))
-  where
-    bounds : isOutside (disk ++ spare) (length disk) ≡ false → (leastCapacity ≤ length (disk ++ spare)) × (length (disk ++ spare) ≤ largestCapacity)
-    bounds b =
-        let c : (ltb (length (disk ++ spare)) leastCapacity || ltb largestCapacity (length (disk ++ spare))) ≡ false = false-or (ltb (length (disk ++ spare)) leastCapacity || ltb largestCapacity (length (disk ++ spare))) (ltb (length (disk ++ spare)) (length disk)) b .0 in (
-          ltb-false (length (disk ++ spare)) leastCapacity (false-or (ltb (length (disk ++ spare)) leastCapacity) (ltb largestCapacity (length (disk ++ spare))) c .0),
-          ltb-false largestCapacity (length (disk ++ spare)) (false-or (ltb (length (disk ++ spare)) leastCapacity) (ltb largestCapacity (length (disk ++ spare))) c .1),
-        )
+accepted-readable : (disk spare rest : List ℕ) → Formed (disk ++ rest) → Accepted (disk ++ spare) (length disk) → Readable (restartOf (disk ++ spare) (length disk) .table) (restartOf (disk ++ spare) (length disk) .log)
+accepted-readable disk spare rest f (Accepted.fresh i h r) = rw r (fresh-readable (disk ++ spare) (i .least) (i .most))
+accepted-readable disk spare rest f (Accepted.read i h s d t r) = rw (r, take-append-seam disk spare)
+    (long-readable disk spare rest f h (rw (take-append-seam disk spare) at d) (rw (take-append-seam disk spare) at t) (i .least) (i .most))
 
 -- ── every world ─────────────────────────────────────────────────────────────────────────────────────────────────
 
@@ -264,7 +238,7 @@ kept (store r disk m) = kept r
 kept (trim r disk m) = kept r
 kept (leave r i m l) = kept r
 kept (restart {w} r log n (spare, p, q)) = rw (p, q) (by-test (eqb (restartOf (w .disk ++ spare) (length (w .disk)) .refusal) 0)
-    (λ t. inr (restart-reads (w .disk) spare (stored-rest w (always refines r) .0) (stored-rest w (always refines r) .1) .gives t))
+    (λ t. inr (accepted-readable (w .disk) spare (stored-rest w (always refines r) .0) (stored-rest w (always refines r) .1) (accepted (w .disk ++ spare) (length (w .disk)) (eqb-true _ 0 t))))
     (λ t. inl (restart-refuses (w .disk ++ spare) (length (w .disk)) t)))
 
 -- what is used is the header and the records
@@ -279,16 +253,14 @@ module _ (w : World) (g : Readable (w .table) (w .log)) (rest : List ℕ) (p : w
   size = same ∙ g .capacity
 
   inside : isOutside (w .disk ++ spare) (length (w .disk)) ≡ false
-  inside = or-false {a = ltb (length (w .disk ++ spare)) leastCapacity || ltb largestCapacity (length (w .disk ++ spare))} {b = ltb (length (w .disk ++ spare)) (length (w .disk))}
-      (or-false {a = ltb (length (w .disk ++ spare)) leastCapacity} {b = ltb largestCapacity (length (w .disk ++ spare))} (le-ltb (length (w .disk ++ spare)) leastCapacity (omega (arith, size, g .least))) (le-ltb largestCapacity (length (w .disk ++ spare)) (omega (arith, size, g .most))))
-      (le-ltb (length (w .disk ++ spare)) (length (w .disk)) (omega (arith, length-append (w .disk) spare)))
+  inside = not-outside (w .disk ++ spare) (length (w .disk)) (record { least = omega (arith, size, g .least); most = omega (arith, size, g .most); below = omega (arith, length-append (w .disk) spare) })
 
   -- less than the header is stored: it begins the header
   begins : length (w .disk) < headerSize → take (length (w .disk)) (w .disk ++ spare) ≡ take (length (w .disk)) header
   begins l = take-append-seam (w .disk) spare ∙ sym (take-append-seam (w .disk) rest) ∙ ap (take (length (w .disk))) (p ∙ g .formed .bytes) ∙ take-append-le (length (w .disk)) header (allBytes (g .formed .records)) (omega arith)
 
   fresh-good : Good (doneRestart (freshOf (length (w .disk ++ spare))) (header ++ drop headerSize (w .disk ++ spare)))
-  fresh-good = record { accepted = refl; sound = sentences-sound (freshOf (length (w .disk ++ spare))) (fresh-sound (length (w .disk ++ spare)) (omega (arith, size, g .least)) (omega (arith, size, g .most))) }
+  fresh-good = record { accepted = refl; sound = fresh-sound (length (w .disk ++ spare)) (omega (arith, size, g .least)) (omega (arith, size, g .most)) }
 
   module _ (h : headerSize ≤ length (w .disk)) where
     abbrev kept-ones : List Record
@@ -326,15 +298,12 @@ module _ (w : World) (g : Readable (w .table) (w .log)) (rest : List ℕ) (p : w
     headed = take-append-le headerSize (w .disk) spare h ∙ sym (take-append-le headerSize (w .disk) rest h) ∙ ap (take headerSize) (p ∙ g .formed .bytes)
 
   restart-good : Good (restartOf (w .disk ++ spare) (length (w .disk)))
-  unfolding restartOf
-  restart-good = by-cases Good (isOutside (w .disk ++ spare) (length (w .disk))) _ _ (λ b. absurd (no-clash (isOutside (w .disk ++ spare) (length (w .disk))) b inside)) (λ _.
-      by-cases Good (ltb (length (w .disk)) headerSize) _ _
-      (λ q. by-cases Good (sameBytes (take (length (w .disk)) (w .disk ++ spare)) (take (length (w .disk)) header)) _ _
-      (λ _. fresh-good)
-      (λ b. absurd (no-clash (sameBytes (take (length (w .disk)) (w .disk ++ spare)) (take (length (w .disk)) header)) (equal-same (take (length (w .disk)) (w .disk ++ spare)) (take (length (w .disk)) header) (begins (ltb-true (length (w .disk)) headerSize q))) b)))
-      (λ q. let h : headerSize ≤ length (w .disk) = ltb-false (length (w .disk)) headerSize q in by-cases Good (sameBytes (take headerSize (w .disk ++ spare)) header) _ _
-      (λ _. subst (λ (l : List ℕ). Good (readBack (drop headerSize l) (w .disk ++ spare))) (sym (take-append-seam (w .disk) spare)) (long-good (w .disk) spare rest whole h (both-fit h .0) (room h) (omega (arith, size, g .most))))
-      (λ b. absurd (no-clash (sameBytes (take headerSize (w .disk ++ spare)) header) (equal-same (take headerSize (w .disk ++ spare)) header (headed h)) b))))
+  restart-good = by-test (ltb (length (w .disk)) headerSize)
+      (λ q. let l : length (w .disk) < headerSize = ltb-true (length (w .disk)) headerSize q in
+      rw (fresh-is (w .disk ++ spare) (length (w .disk)) inside l (equal-same (take (length (w .disk)) (w .disk ++ spare)) (take (length (w .disk)) header) (begins l))) fresh-good)
+      (λ q. let h : headerSize ≤ length (w .disk) = ltb-false (length (w .disk)) headerSize q in
+      rw (read-is (w .disk ++ spare) (length (w .disk)) inside h (equal-same (take headerSize (w .disk ++ spare)) header (headed h)), take-append-seam (w .disk) spare)
+      (long-good (w .disk) spare rest whole h (both-fit h .0) (room h) (omega (arith, size, g .most))))
 
 pub never-bricked : NeverBricked
 unfolding NeverBricked
@@ -346,7 +315,16 @@ pub record RestartsWell (s : Restart) : Type 0 where
   pub full : length (s .log) ≡ s .table .capacity
 
 pub restarts-well : (w : World) → Run careful w → (spare : List ℕ) → restartOf (w .disk ++ spare) (length (w .disk)) .refusal ≡ refusal.accepted → RestartsWell (restartOf (w .disk ++ spare) (length (w .disk)))
-restarts-well w run spare q = record { sound = r .sound (eq-eqb _ 0 q); full = sym (r .gives (eq-eqb _ 0 q) .capacity) }
+restarts-well w run spare q = record {
+  sound = of-accepted (w .disk ++ spare) (length (w .disk)) (λ h. rw (take-append-seam (w .disk) spare, restarts.scan-is (w .disk) spare rest f h) (restarts.ok (w .disk) spare rest f h)) a;
+  full = sym (accepted-readable (w .disk) spare rest f a .capacity);
+}
   where
-    r : Reads (restartOf (w .disk ++ spare) (length (w .disk)))
-    r = restart-reads (w .disk) spare (stored-rest w (always refines run) .0) (stored-rest w (always refines run) .1)
+    rest : List ℕ
+    rest = stored-rest w (always refines run) .0
+
+    f : Formed (w .disk ++ rest)
+    f = stored-rest w (always refines run) .1
+
+    a : Accepted (w .disk ++ spare) (length (w .disk))
+    a = accepted (w .disk ++ spare) (length (w .disk)) q

@@ -12,7 +12,7 @@ use Rattle.lists.specs.Members.{_∈_, Each, Some}
 use Rattle.lists.specs.Lists.{any, filter, firstOr}
 use Rattle.lists.specs.Places.{placeOf, putLowest}
 use Rattle.lists.proofs.Tests.{by-cases, by-test, by-either, no-clash, is-false, true-or, none-each, first-passes, first-none, by-cond}
-use Rattle.lists.proofs.Places.{IsFirst, place-first, put-is, put-there, put-keeps, of-put, filter-put}
+use Rattle.lists.proofs.Places.{IsFirst, place-first, put-is, put-there, put-keeps, of-put}
 use Rattle.rules.specs.declared.Transaction.{Transaction}
 use Rattle.rules.specs.declared.Enlistment.{Enlistment}
 use Rattle.rules.specs.declared.Table.{Table}
@@ -29,12 +29,12 @@ use Rattle.rules.specs.declared.Name.the-variants as name
 use Rattle.rules.specs.TransactionState as transaction
 use Rattle.rules.specs.EnlistmentState as enlistment
 use Rattle.rules.specs.Identifiers.{Id}
-use Rattle.rules.specs.Table.{noTransaction, noEnlistment, isLive, isFree, isNamed, placeNamed, transactionAt, stateAt, isVacant, heldBy, held, isPhaseZero, isIn, inState, withTransactions, withEnlistments, changeHeld, changeTransaction, goTo}
+use Rattle.rules.specs.Table.{noTransaction, noEnlistment, isLive, isFree, isNamed, placeNamed, transactionAt, stateAt, isVacant, held, isPhaseZero, isIn, inState, withTransactions, withEnlistments, changeHeld, changeTransaction, goTo}
 use Rattle.rules.specs.Sound.{Sound, Durable}
 use Rattle.rules.specs.Signals.{signal, toEach, Committed}
 use Rattle.rules.specs.Events.{quietly, saying, abortOf, beginOf, kindOf, zeroAtOnce, newEnlistment, enlistOf, zeroedOf, commitOf, isUndone, isOver, toldAgain, askOf}
 use Rattle.rules.proofs.Identifiers.{same-refl}
-use Rattle.rules.proofs.Frames.{Keeps, of-held, in-held, held-came, held-own, held-transaction, named-is, named-other, named-found, none-absent, not-zero, Stands, Absent, at-own, at-other, place-kept}
+use Rattle.rules.proofs.Frames.{Keeps, of-held, in-held, held-came, held-own, named-is, named-other, named-found, none-absent, not-zero, Stands, Absent, at-own, at-other}
 use Rattle.safety.specs.World.{Note, told, messageOf}
 use Rattle.safety.specs.Host.{Prepares, MayAsk}
 use Rattle.safety.specs.Demand3.{Votes}
@@ -42,7 +42,7 @@ use Rattle.safety.proofs.Alone as alone
 use Rattle.safety.proofs.Alone.{Story, early, Waits, Is, Unasked}
 use Rattle.safety.proofs.Move.{nothing-calm, Joins, from-early, from-aborting, to-aborting, Move, stay, begin, gather, abort, told-on, answer-out}
 use Rattle.safety.proofs.Top.{Agrees}
-use Rattle.safety.proofs.View.{viewOf, look, view-in, view-stands, view-absent, view-same, view-goes, goes-other, view-changes, view-held-other, state-none}
+use Rattle.safety.proofs.View.{viewOf, look, view-in, view-stands, view-absent, view-goes, goes-other, view-changes, view-held-other, state-none, view-only}
 use Rattle.safety.proofs.Given.{stands-sound, owner-held}
 use Rattle.safety.proofs.Messages.{notCommitted, notAborted, Only, only-nothing, only-one, only-each, Addressed, Owned, addressed-nothing, addressed-one, addressed-neutral, none-committed, none-aborted, quiet}
 use Rattle.safety.proofs.Own.{Own, unwritten, unlogged, used-goes, own-abort, own-start}
@@ -50,11 +50,7 @@ use Rattle.safety.proofs.Reactions.{held-votes, untouched}
 use Rattle.rules.proofs.Told.{told-key}
 use Rattle.rules.proofs.Phases.{zeroed-key}
 use Rattle.rules.proofs.Kept.{SameKey}
-
--- a change of the transaction at p is none of one that stands elsewhere
-view-transaction-other : (u : Id) (p : ℕ) (f : Transaction → Transaction) (tb : Table) → isNamed u (transactionAt p tb) ≡ false → isNamed u (f (transactionAt p tb)) ≡ false → viewOf u (changeTransaction p f tb) ≡ viewOf u tb
-view-transaction-other u p f tb b a = view-same u tb (changeTransaction p f tb) (place-kept p f tb u b a)
-    (λ n. (ap (λ (x : Transaction). x .state) (at-other p f tb (placeNamed u tb) (λ e. no-clash _ (ap (λ q. isNamed u (transactionAt q tb)) (sym e) ∙ named-found u tb n) b)), held-transaction p (placeNamed u tb) f tb))
+use Rattle.rules.proofs.Only.{only-transaction, only-enlist}
 
 module _ (tb : Table) (log : List ℕ) (s : Sound tb) (x : TxId) (y : RmId) where
   abbrev pub t : Id
@@ -108,7 +104,7 @@ module _ (tb : Table) (log : List ℕ) (s : Sound tb) (x : TxId) (y : RmId) wher
 
     begun-other : (u : Id) → (u ≡ t → ⊥) → viewOf u begun ≡ viewOf u tb
     unfolding begun new
-    begun-other u d = view-transaction-other u q (λ w. new) tb (nobody u) (is-false (isNamed u new) (λ e. d (sym (named-is u new e .1))))
+    begun-other u d = view-only u q tb begun (only-transaction q (λ w. new) tb) (nobody u) (ap (isNamed u) stands-at ∙ is-false (isNamed u new) (λ e. d (sym (named-is u new e .1))))
 
     begun-view : viewOf t begun ≡ early (held q begun)
     unfolding new
@@ -198,13 +194,12 @@ module _ (tb : Table) (log : List ℕ) (s : Sound tb) (x : TxId) (y : RmId) wher
       unfolding enlistOf enlisted joined
       enlist-is = refl
 
-      held-elsewhere : (q : ℕ) → (q ≡ p → ⊥) → (q ≡ 0 → ⊥) → held q enlisted ≡ held q tb
-      unfolding held enlisted
-      held-elsewhere q d z = filter-put isVacant joined (heldBy q) (tb .enlistments) (ne-eqb (joined .holder) q (λ e. d (sym e ∙ joined-is .0))) (λ w i e. ne-eqb (w .holder) q (λ c. z (sym c ∙ eqb-true (w .holder) 0 e)))
-
       enlisted-other : (u : Id) → (u ≡ t → ⊥) → viewOf u enlisted ≡ viewOf u tb
-      unfolding enlisted
-      enlisted-other u d = view-same u tb enlisted refl (λ w. (refl, held-elsewhere (placeNamed u tb) (λ e. d (sym (named-is u (transactionAt (placeNamed u tb) tb) (named-found u tb w) .1) ∙ ap (λ q. transactionAt q tb .id .0) e ∙ named-is t (transactionAt p tb) (at-p .here) .1)) w))
+      unfolding enlisted joined newEnlistment
+      enlisted-other u d = view-only u p tb enlisted (only-enlist joined tb) (other u d) (other u d)
+        where
+          other : (u : Id) → (u ≡ t → ⊥) → isNamed u (transactionAt p tb) ≡ false
+          other u d = named-other t u (transactionAt p tb) (at-p .here) d
 
       enlisted-view : viewOf t enlisted ≡ early (held p enlisted)
       unfolding viewOf enlisted

@@ -8,22 +8,21 @@ use mathlib.Core.Bool.{true, false}
 use mathlib.Core.List.{List, [], _∷_, _++_, map, append-assoc, nil≢cons, List·Memᴰ·head, Memᴰ·append-left, Memᴰ·append-right, Memᴰ·map}
 use lib.ListN.{length, take, drop, replicate, length-append, take-append-drop, drop-of-length-le}
 use lib.Seq.{take-append-le, drop-append-le, take-at, take-append-seam}
-use lib.Dec.{eqb, ltb}
-use borrow.Author.Tests.{eqb-false, eq-eqb, ne-eqb, ltb-true, ltb-false}
+use lib.Dec.{eqb}
+use borrow.Author.Tests.{eqb-false, eq-eqb, ne-eqb, eqb-true}
 use Rattle.lists.specs.Lists.{filter}
 use Rattle.lists.specs.Members.{_∈_, Each, Some}
 use Rattle.lists.specs.Places.{placeFrom, atFrom}
-use Rattle.lists.proofs.Tests.{by-cases, by-test, no-clash, of-map, each-front}
+use Rattle.lists.proofs.Tests.{by-test, of-map, each-front}
 use Rattle.rules.specs.declared.Transaction.{Transaction}
 use Rattle.rules.specs.declared.Table.{Table}
 use Rattle.rules.specs.TransactionState as transaction
 use Rattle.rules.specs.Sizes.{headerSize, transactionPlaces, enlistmentPlaces}
-use Rattle.rules.specs.Identifiers.{Id, sameBytes}
+use Rattle.rules.specs.Identifiers.{Id}
 use Rattle.rules.specs.Table.{noTransaction, noEnlistment, freshOf, isNamed, held}
 use Rattle.rules.specs.Sound.{Durable}
 use Rattle.rules.specs.Log.{Entry, Record, header, allBytes, scan, behind}
-use Rattle.rules.specs.RefusalNumber as refusal
-use Rattle.rules.specs.Restart.{Open, isOpenAs, openAfter, reopened, reenlistment, reenlistments, tableOf, Restart, refusedRestart, doneRestart, usedOf, isDamaged, isTooShort, readBack, isOutside, restartOf}
+use Rattle.rules.specs.Restart.{Open, isOpenAs, openAfter, reopened, reenlistment, reenlistments, tableOf, Restart, doneRestart, usedOf, restartOf}
 use Rattle.rules.proofs.Records.{Valid, Cut, cut, scan-all, behind-all}
 use Rattle.rules.proofs.Refused.{refused-restart}
 use Rattle.rules.proofs.Frames.{in-held, none-absent}
@@ -32,6 +31,7 @@ use Rattle.safety.proofs.Cut.{Restored}
 use Rattle.safety.proofs.Top.{Restores}
 use Rattle.safety.proofs.Story.{story, storyOf, Formed, header-formed, story-formed, mine, nothing-mine, Tells, tells}
 use Rattle.safety.proofs.View.{viewOf, view-absent}
+use Rattle.rules.proofs.Restarts.{Accepted, accepted}
 
 -- ── the table of a restart ──────────────────────────────────────────────────────────────────────────────────────
 
@@ -183,31 +183,12 @@ module _ (disk spare rest : List ℕ) (f : Formed (disk ++ rest)) (h : headerSiz
     restored = λ t. rw (disk-story t, scan-is) (restored t (story t none rs) (openAfter [] rs) (length (disk ++ spare)) (usedOf body) (tells t rs ok none [] (nothing-mine t)));
   }
 
--- (a named record, so that `by-cases` finds what it speaks of)
-record Fine (disk : List ℕ) (s : Restart) : Type 0 where
-  gives : eqb (s .refusal) 0 ≡ true → R disk s
-
-refused-fine : (disk log : List ℕ) (why : ℕ) → eqb why 0 ≡ false → Fine disk (refusedRestart why log)
-refused-fine disk log why q = record { gives = λ e. no-clash (eqb why 0) e q }
-
-read-fine : (disk spare rest : List ℕ) → Formed (disk ++ rest) → headerSize ≤ length disk → Fine disk (readBack (drop headerSize disk) (disk ++ spare))
-unfolding readBack
-read-fine disk spare rest f h = by-cases (Fine disk) (isDamaged (drop headerSize disk)) _ _ (λ _. refused-fine disk (disk ++ spare) refusal.damagedLog refl) (λ _.
-    by-cases (Fine disk) (isTooShort (drop headerSize disk) (length (disk ++ spare))) _ _ (λ _. refused-fine disk (disk ++ spare) refusal.logTooShort refl) (λ _. record { gives = λ _. long disk spare rest f h }))
-
-restart-fine : (disk spare rest : List ℕ) → Formed (disk ++ rest) → Fine disk (restartOf (disk ++ spare) (length disk))
-unfolding restartOf
-restart-fine disk spare rest f = by-cases (Fine disk) (isOutside (disk ++ spare) (length disk)) _ _ (λ _. refused-fine disk (disk ++ spare) refusal.damagedLog refl) (λ _.
-    by-cases (Fine disk) (ltb (length disk) headerSize) _ _
-    (λ q. by-cases (Fine disk) (sameBytes (take (length disk) (disk ++ spare)) (take (length disk) header)) _ _
-    (λ _. record { gives = λ _. short disk (disk ++ spare) (ltb-true (length disk) headerSize q) })
-    (λ _. refused-fine disk (disk ++ spare) refusal.damagedLog refl))
-    (λ q. by-cases (Fine disk) (sameBytes (take headerSize (disk ++ spare)) header) _ _
-    (λ _. subst (λ (l : List ℕ). Fine disk (readBack (drop headerSize l) (disk ++ spare))) (sym (take-append-seam disk spare)) (read-fine disk spare rest f (ltb-false (length disk) headerSize q)))
-    (λ _. refused-fine disk (disk ++ spare) refusal.damagedLog refl)))
-
 pub restart-accepts : (disk spare rest : List ℕ) → Formed (disk ++ rest) → eqb (restartOf (disk ++ spare) (length disk) .refusal) 0 ≡ true → Restores viewOf storyOf Formed disk (restartOf (disk ++ spare) (length disk))
-restart-accepts disk spare rest f e = restart-fine disk spare rest f .gives e
+restart-accepts disk spare rest f e = go (accepted (disk ++ spare) (length disk) (eqb-true _ 0 e))
+  where
+    go : Accepted (disk ++ spare) (length disk) → R disk (restartOf (disk ++ spare) (length disk))
+    go (Accepted.fresh i h r) = rw r (short disk (disk ++ spare) h)
+    go (Accepted.read i h s d t r) = rw (r, take-append-seam disk spare) (long disk spare rest f h)
 
 pub restart-refuses : (log : List ℕ) (n : ℕ) → eqb (restartOf log n .refusal) 0 ≡ false → restartOf log n .table .used ≡ 0
 restart-refuses log n q = ap (λ (s : Restart). s .table .used) (refused-restart log n (restartOf log n .refusal) refl (eqb-false (restartOf log n .refusal) 0 q))
