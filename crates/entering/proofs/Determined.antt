@@ -14,8 +14,8 @@ use Rattle.rules.specs.Identifiers.{Id, zeroId}
 use Rattle.rules.specs.Table.{placeNamed}
 use Rattle.rules.specs.Events.{Outcome, kindOf, acted, acceptedOf, beginOf, enlistOf}
 use Rattle.rules.specs.Refusals.{Check, firstOf, refusalOf}
-use Rattle.refusals.specs.Checking.{beginChecks, enlistChecks}
-use Rattle.refusals.proofs.Events.{begin-refusal, enlist-refusal}
+use Rattle.rules.specs.Checks.{beginChecks, enlistChecks}
+use Rattle.refusals.proofs.Events.{event-refusal}
 use Rattle.rows.specs.Memory.{tableIn, OfBytes}
 use Rattle.rows.proofs.Determined.{table-determined}
 use Rattle.entering.specs.declared.Answer.{Answer}
@@ -50,7 +50,7 @@ module _ (heads rows : List (List ℕ)) (capacity used : ℕ) (id : Id) (fine : 
   unfolding acted
   begin-determined b b′ p q =
       let e = about zeroId act.Begin in
-      let (a, h, _, _) = does-determined b b′ tb e anyLog (beginChecks tb id) (begin-refusal tb e (length anyLog) (fine .sound) (length-replicate capacity 0) refl) refl (p anyLog) (q anyLog) in
+      let (a, h, _, _) = does-determined b b′ tb e anyLog (beginChecks tb id) (event-refusal tb e (length anyLog) (fine .sound) (length-replicate capacity 0) _ refl) refl (p anyLog) (q anyLog) in
       (a, h)
 
   pub enlist-determined : (n : ℕ) (rm : Id) (kind : Kind) (mark : Mark) {rows′ rows″ : List (List ℕ)} {r s : Answer} → OfBytes heads rows′ → OfBytes heads rows″
@@ -60,5 +60,5 @@ module _ (heads rows : List (List ℕ)) (capacity used : ℕ) (id : Id) (fine : 
   unfolding acted
   enlist-determined n rm kind mark b b′ p q =
       let e = about rm (act.Enlist n kind mark) in
-      let (a, _, w, _) = does-determined b b′ tb e anyLog (enlistChecks tb id rm n (kindOf kind)) (enlist-refusal tb e (length anyLog) (fine .sound) (length-replicate capacity 0) n kind mark refl) refl (p anyLog) (q anyLog) in
+      let (a, _, w, _) = does-determined b b′ tb e anyLog (enlistChecks tb id rm n (kindOf kind)) (event-refusal tb e (length anyLog) (fine .sound) (length-replicate capacity 0) _ refl) refl (p anyLog) (q anyLog) in
       (a, w)
