@@ -54,7 +54,7 @@ fn larger(most: u32, n: u32) -> u32
 fn largest(table: Table) -> u32
     ensures { λ r. ⌜ r ≡ largestIn (table .enlistments) ⌝ }
 {
-    let mut i: usize = 128;
+    let mut i: usize = sizes::ENLISTMENTS;
     let mut most: u32 = 0;
     while 0 < i {
         i -= 1;

@@ -1,7 +1,9 @@
 -- How the code gives an outcome: a holding that is the outcome's table alone, at the place p where it was; its signals in a row; and the log as it leaves it.
-use Prim.Native.Nat.{ℕ, _≤_}
+use Prim.Native.Nat.{ℕ, _+_, _*_, _≤_}
 use mathlib.Core.Path.{_≡_}
 use mathlib.Core.List.{List}
+use Rattle.rules.specs.Sizes.{transactionPlaces, signalsMost, largestCapacity}
+use Rattle.rules.specs.Log.{commitSize}
 use Rattle.rules.specs.Signals.{rowOf}
 use Rattle.rules.specs.Events.{Outcome}
 use Rattle.holdings.specs.declared.Holding.{Holding}
@@ -20,9 +22,9 @@ pub record Leaves (p : ℕ) (o : Outcome) (r : Holding) (after : List ℕ) : Typ
   pub place : r .place ≡ p
   pub log : after ≡ o .log
 
--- so far below the largest number that what one event adds to the used length fits
+-- what a sound table may use, and what the ends of all its transactions may add: far enough below the largest number for one record more
 abbrev pub usedMost : ℕ
-usedMost = 1000000
+usedMost = largestCapacity + transactionPlaces * commitSize signalsMost
 
 abbrev pub Ready : Holding → Type 0
 Ready h = Placed (h .place) × (h .used ≤ usedMost)

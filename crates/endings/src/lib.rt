@@ -3,6 +3,8 @@
 ghost use mathlib.Core.Path.{_≡_};
 ghost use mathlib.Core.List.{[]};
 ghost use Prim.Native.Nat.{_+_, _≤_};
+ghost use Rattle.rules.specs.Sizes.{signalsMost};
+ghost use Rattle.rules.specs.Log.{commitSize};
 ghost use Rattle.rules.specs.Signals.{toApp, rowOf};
 ghost use Rattle.rules.specs.Events.{saying, endOf, endIfDone, abortOf};
 ghost use Rattle.holdings.specs.Holdings.{alone};
@@ -31,7 +33,7 @@ pub fn quietly(h: Holding) -> Accepted
 
 pub fn end(h: Holding, log: &mut [u8]) -> Holding
     requires { ⌜ Ready h ⌝ }
-    ensures { λ r. ⌜ Leaves (h .place) (endOf (h .place) (alone h) (now (log .entry))) r (now (log .exit)) × (r .used ≤ h .used + 358) ⌝ }
+    ensures { λ r. ⌜ Leaves (h .place) (endOf (h .place) (alone h) (now (log .entry))) r (now (log .exit)) × (r .used ≤ h .used + commitSize signalsMost) ⌝ }
 {
     let open = holdings::is_open(h);
     let x = h.transaction;

@@ -6,6 +6,7 @@ ghost use mathlib.Core.List.{List, []};
 ghost use Prim.Native.Nat.{ℕ};
 ghost use lib.Dec.{eqb};
 ghost use lib.ListN.{length};
+ghost use Rattle.rules.specs.Sizes.{enlistmentPlaces};
 ghost use Rattle.rules.specs.Table.{placeNamed};
 ghost use Rattle.rules.specs.Signals.{rowOf};
 ghost use Rattle.rules.specs.Events.{kindOf, beginOf, enlistOf};
@@ -66,7 +67,7 @@ pub fn begin(
 
 // Whether the number is held, or the transaction at place p holds another durable one of the resource manager.
 fn finds_held(rows: &[[u8; 24]; 128], p: u8, n: u32, rm: [u8; 16], kind: u8) -> bool
-    requires { ⌜ length (now rows) ≡ 128 ⌝ }
+    requires { ⌜ length (now rows) ≡ enlistmentPlaces ⌝ }
     ensures { λ r. ⌜ ((heads : List (List ℕ)) (capacity used : ℕ) → eqb n 0 ≡ false → r ≡ heldAlready (tableIn heads (now (rows .entry)) capacity used) p rm n kind) ⌝ }
 {
     let e = lent_places::numbered(rows, n);
@@ -75,7 +76,7 @@ fn finds_held(rows: &[[u8; 24]; 128], p: u8, n: u32, rm: [u8; 16], kind: u8) -> 
 }
 
 fn finds_full(rows: &[[u8; 24]; 128], p: u8) -> bool
-    requires { ⌜ length (now rows) ≡ 128 ⌝ }
+    requires { ⌜ length (now rows) ≡ enlistmentPlaces ⌝ }
     ensures { λ r. ⌜ ((heads : List (List ℕ)) (capacity used : ℕ) → r ≡ fullFor (tableIn heads (now (rows .entry)) capacity used) p) ⌝ }
 {
     let vacant = lent_places::place_vacant(rows);

@@ -5,7 +5,7 @@ ghost use mathlib.Core.List.{List, map};
 ghost use Prim.Native.Nat.{ℕ, _*_, _-_, _≤_};
 ghost use lib.ListN.{length};
 ghost use Rattle.lists.specs.Lists.{count};
-ghost use Rattle.rules.specs.Sizes.{recordSize};
+ghost use Rattle.rules.specs.Sizes.{transactionPlaces, enlistmentPlaces, heldMost, recordSize};
 ghost use Rattle.rules.specs.Table.{placeNamed, heldBy, held};
 ghost use Rattle.rules.specs.Sound.{isOpen};
 ghost use Rattle.rules.specs.Events.{commitOf, abortOf, reactedOf, askOf, reenlistedOf};
@@ -26,7 +26,7 @@ use rules::sizes;
 
 // What became of a transaction and of what it holds goes back to its places.
 fn put_back(heads: &mut [[u8; 17]; 32], rows: &mut [[u8; 24]; 128], done: Accepted) -> Answer
-    requires { ⌜ (length (now heads) ≡ 32) × (length (now rows) ≡ 128) × (count (heldBy (done .holding .place)) (map enlistmentIn (now rows)) ≤ 16) ⌝ }
+    requires { ⌜ (length (now heads) ≡ transactionPlaces) × (length (now rows) ≡ enlistmentPlaces) × (count (heldBy (done .holding .place)) (map enlistmentIn (now rows)) ≤ heldMost) ⌝ }
     ensures { λ r. ⌜ PutsBack (now (heads .entry)) (now (rows .entry)) done r (now (heads .exit)) (now (rows .exit)) ⌝ }
 {
     let h = done.holding;
@@ -88,7 +88,7 @@ fn rollback(
 
 // Of a transaction that is not live.
 fn ask_unknown(id: [u8; 16], rm: [u8; 16], used: u32) -> Answer
-    ensures { λ r. ⌜ ((heads rows : List (List ℕ)) (capacity : ℕ) (log : List ℕ) → length heads ≡ 32 → length rows ≡ 128 → placeNamed id (tableIn heads rows capacity used) ≡ 0
+    ensures { λ r. ⌜ ((heads rows : List (List ℕ)) (capacity : ℕ) (log : List ℕ) → length heads ≡ transactionPlaces → length rows ≡ enlistmentPlaces → placeNamed id (tableIn heads rows capacity used) ≡ 0
         → (let tb = tableIn heads rows capacity used in Does (askChecks tb id rm) (askOf (placeNamed id tb) rm tb log) tb log r heads rows log)) ⌝ }
 {
     let why = refusals::ask(id, rm, 0, true);

@@ -2,6 +2,7 @@
 
 ghost use mathlib.Core.Path.{_≡_};
 ghost use Prim.Native.Nat.{_+_, _≤_};
+ghost use Rattle.rules.specs.Sizes.{largestNumber};
 ghost use Rattle.rules.specs.Table.{held, freed, inTransactionState, ended};
 ghost use Rattle.rules.specs.Sound.{isOpen};
 ghost use Rattle.passes.specs.Census.{censusOf};
@@ -105,7 +106,7 @@ pub fn emptied(h: Holding) -> Holding
 }
 
 pub fn use_more(h: Holding, n: u32) -> Holding
-    requires { ⌜ h .used + n ≤ 4294967295 ⌝ }
+    requires { ⌜ h .used + n ≤ largestNumber ⌝ }
     ensures { λ r. ⌜ r ≡ withUsed (h .used + n) h ⌝ }
 {
     let mut u = h;

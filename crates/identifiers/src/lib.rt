@@ -4,12 +4,13 @@ ghost use mathlib.Core.Path.{_≡_};
 ghost use Prim.Native.Nat.{_+_, _*_, _<_};
 ghost use Rattle.rules.specs.Identifiers.{sameBytes, lessBytes, isZero};
 ghost use Rattle.identifiers.specs.Words.{word};
+use rules::sizes;
 
 pub fn same(a: [u8; 16], b: [u8; 16]) -> bool
     ensures { λ r. ⌜ r ≡ sameBytes a b ⌝ }
 {
     let mut i: usize = 0;
-    while i < 16 {
+    while i < sizes::IDENTIFIER {
         let equal = a[i] == b[i];
         if equal {
             i += 1;
@@ -25,7 +26,7 @@ pub fn less(a: [u8; 16], b: [u8; 16]) -> bool
     ensures { λ r. ⌜ r ≡ lessBytes a b ⌝ }
 {
     let mut i: usize = 0;
-    while i < 16 {
+    while i < sizes::IDENTIFIER {
         let equal = a[i] == b[i];
         if equal {
             i += 1;

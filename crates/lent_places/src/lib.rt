@@ -5,6 +5,7 @@ ghost use mathlib.Core.List.{map};
 ghost use lib.ListN.{length};
 ghost use Rattle.lists.specs.Lists.{firstOr};
 ghost use Rattle.lists.specs.Places.{placeOf, at, changeAt};
+ghost use Rattle.rules.specs.Sizes.{transactionPlaces, enlistmentPlaces};
 ghost use Rattle.rules.specs.Table.{noTransaction, noEnlistment, isFree, isNamed, isVacant, isNumbered};
 ghost use Rattle.rows.specs.Memory.{transactionIn, enlistmentIn};
 use rules::Enlistment;
@@ -19,7 +20,7 @@ const ENLISTMENTS: u8 = sizes::ENLISTMENTS as u8;
 fn is_named(head: [u8; 17], id: [u8; 16]) -> bool
     ensures { λ r. ⌜ r ≡ isNamed id (transactionIn head) ⌝ }
 {
-    let free = head[16] == 0;
+    let free = head[rows::HEAD_STATE_AT] == 0;
     if free {
         return false;
     }
@@ -29,7 +30,7 @@ fn is_named(head: [u8; 17], id: [u8; 16]) -> bool
 
 // Of the live transaction with this identifier.
 pub fn place_named(heads: &[[u8; 17]; 32], id: [u8; 16]) -> u8
-    requires { ⌜ length (now heads) ≡ 32 ⌝ }
+    requires { ⌜ length (now heads) ≡ transactionPlaces ⌝ }
     ensures { λ r. ⌜ r ≡ placeOf (isNamed id) (map transactionIn (now (heads .entry))) ⌝ }
 {
     let mut i: u8 = 0;
@@ -46,14 +47,14 @@ pub fn place_named(heads: &[[u8; 17]; 32], id: [u8; 16]) -> u8
 }
 
 pub fn place_free(heads: &[[u8; 17]; 32]) -> u8
-    requires { ⌜ length (now heads) ≡ 32 ⌝ }
+    requires { ⌜ length (now heads) ≡ transactionPlaces ⌝ }
     ensures { λ r. ⌜ r ≡ placeOf isFree (map transactionIn (now (heads .entry))) ⌝ }
 {
     let mut i: u8 = 0;
     while i < TRANSACTIONS {
         let k = i as usize;
         let head = heads[k];
-        let hit = head[16] == 0;
+        let hit = head[rows::HEAD_STATE_AT] == 0;
         i += 1;
         if hit {
             return i;
@@ -63,14 +64,14 @@ pub fn place_free(heads: &[[u8; 17]; 32]) -> u8
 }
 
 pub fn place_vacant(rows: &[[u8; 24]; 128]) -> u8
-    requires { ⌜ length (now rows) ≡ 128 ⌝ }
+    requires { ⌜ length (now rows) ≡ enlistmentPlaces ⌝ }
     ensures { λ r. ⌜ r ≡ placeOf isVacant (map enlistmentIn (now (rows .entry))) ⌝ }
 {
     let mut i: u8 = 0;
     while i < ENLISTMENTS {
         let k = i as usize;
         let row = rows[k];
-        let hit = row[20] == 0;
+        let hit = row[rows::HOLDER_AT] == 0;
         i += 1;
         if hit {
             return i;
@@ -81,7 +82,7 @@ pub fn place_vacant(rows: &[[u8; 24]; 128]) -> u8
 
 // An empty place if there is none.
 pub fn numbered(rows: &[[u8; 24]; 128], n: u32) -> Enlistment
-    requires { ⌜ length (now rows) ≡ 128 ⌝ }
+    requires { ⌜ length (now rows) ≡ enlistmentPlaces ⌝ }
     ensures { λ r. ⌜ r ≡ firstOr noEnlistment (isNumbered n) (map enlistmentIn (now (rows .entry))) ⌝ }
 {
     let mut i: usize = 0;
@@ -97,7 +98,7 @@ pub fn numbered(rows: &[[u8; 24]; 128], n: u32) -> Enlistment
 }
 
 pub fn transaction_at(heads: &[[u8; 17]; 32], p: u8) -> Transaction
-    requires { ⌜ length (now heads) ≡ 32 ⌝ }
+    requires { ⌜ length (now heads) ≡ transactionPlaces ⌝ }
     ensures { λ r. ⌜ r ≡ at noTransaction p (map transactionIn (now (heads .entry))) ⌝ }
 {
     if p == 0 {
@@ -112,8 +113,8 @@ pub fn transaction_at(heads: &[[u8; 17]; 32], p: u8) -> Transaction
 }
 
 pub fn put_transaction(heads: &mut [[u8; 17]; 32], p: u8, x: Transaction)
-    requires { ⌜ length (now heads) ≡ 32 ⌝ }
-    ensures { λ r. ⌜ (length (now (heads .exit)) ≡ 32) × (map transactionIn (now (heads .exit)) ≡ changeAt p (λ y. x) (map transactionIn (now (heads .entry)))) ⌝ }
+    requires { ⌜ length (now heads) ≡ transactionPlaces ⌝ }
+    ensures { λ r. ⌜ (length (now (heads .exit)) ≡ transactionPlaces) × (map transactionIn (now (heads .exit)) ≡ changeAt p (λ y. x) (map transactionIn (now (heads .entry)))) ⌝ }
 {
     if p == 0 {
         return;
@@ -126,8 +127,8 @@ pub fn put_transaction(heads: &mut [[u8; 17]; 32], p: u8, x: Transaction)
 }
 
 pub fn put_enlistment(rows: &mut [[u8; 24]; 128], p: u8, e: Enlistment)
-    requires { ⌜ length (now rows) ≡ 128 ⌝ }
-    ensures { λ r. ⌜ (length (now (rows .exit)) ≡ 128) × (map enlistmentIn (now (rows .exit)) ≡ changeAt p (λ y. e) (map enlistmentIn (now (rows .entry)))) ⌝ }
+    requires { ⌜ length (now rows) ≡ enlistmentPlaces ⌝ }
+    ensures { λ r. ⌜ (length (now (rows .exit)) ≡ enlistmentPlaces) × (map enlistmentIn (now (rows .exit)) ≡ changeAt p (λ y. e) (map enlistmentIn (now (rows .entry)))) ⌝ }
 {
     if p == 0 {
         return;

@@ -6,6 +6,7 @@ ghost use Prim.Native.Nat.{ℕ, _≤_};
 ghost use lib.ListN.{length};
 ghost use Rattle.lists.specs.Lists.{filter, count};
 ghost use Rattle.lists.specs.Places.{changeAt};
+ghost use Rattle.rules.specs.Sizes.{transactionPlaces, enlistmentPlaces, heldMost};
 ghost use Rattle.rules.specs.Table.{heldBy};
 ghost use Rattle.rows.specs.Memory.{transactionIn, enlistmentIn, tableIn};
 ghost use Rattle.holdings.specs.Within.{taken, refill};
@@ -16,8 +17,8 @@ use rules::Transaction;
 use rules::sizes;
 
 pub fn heads_of(transactions: [Transaction; 32], heads: &mut [[u8; 17]; 32])
-    requires { ⌜ length (now heads) ≡ 32 ⌝ }
-    ensures { λ r. ⌜ (length (now (heads .exit)) ≡ 32) × (map transactionIn (now (heads .exit)) ≡ transactions) ⌝ }
+    requires { ⌜ length (now heads) ≡ transactionPlaces ⌝ }
+    ensures { λ r. ⌜ (length (now (heads .exit)) ≡ transactionPlaces) × (map transactionIn (now (heads .exit)) ≡ transactions) ⌝ }
 {
     let mut i: usize = 0;
     while i < sizes::TRANSACTIONS {
@@ -29,8 +30,8 @@ pub fn heads_of(transactions: [Transaction; 32], heads: &mut [[u8; 17]; 32])
 }
 
 pub fn rows_of(enlistments: [Enlistment; 128], rows: &mut [[u8; 24]; 128])
-    requires { ⌜ length (now rows) ≡ 128 ⌝ }
-    ensures { λ r. ⌜ (length (now (rows .exit)) ≡ 128) × (map enlistmentIn (now (rows .exit)) ≡ enlistments) ⌝ }
+    requires { ⌜ length (now rows) ≡ enlistmentPlaces ⌝ }
+    ensures { λ r. ⌜ (length (now (rows .exit)) ≡ enlistmentPlaces) × (map enlistmentIn (now (rows .exit)) ≡ enlistments) ⌝ }
 {
     let mut i: usize = 0;
     while i < sizes::ENLISTMENTS {
@@ -42,7 +43,7 @@ pub fn rows_of(enlistments: [Enlistment; 128], rows: &mut [[u8; 24]; 128])
 }
 
 pub fn transactions_in(heads: &[[u8; 17]; 32]) -> [Transaction; 32]
-    requires { ⌜ length (now heads) ≡ 32 ⌝ }
+    requires { ⌜ length (now heads) ≡ transactionPlaces ⌝ }
     ensures { λ r. ⌜ r ≡ map transactionIn (now (heads .entry)) ⌝ }
 {
     let none = places::no_transaction();
@@ -58,7 +59,7 @@ pub fn transactions_in(heads: &[[u8; 17]; 32]) -> [Transaction; 32]
 }
 
 pub fn enlistments_in(rows: &[[u8; 24]; 128]) -> [Enlistment; 128]
-    requires { ⌜ length (now rows) ≡ 128 ⌝ }
+    requires { ⌜ length (now rows) ≡ enlistmentPlaces ⌝ }
     ensures { λ r. ⌜ r ≡ map enlistmentIn (now (rows .entry)) ⌝ }
 {
     let none = places::no_enlistment();
@@ -74,7 +75,7 @@ pub fn enlistments_in(rows: &[[u8; 24]; 128]) -> [Enlistment; 128]
 }
 
 pub fn table_in(heads: &[[u8; 17]; 32], rows: &[[u8; 24]; 128], capacity: u32, used: u32) -> Table
-    requires { ⌜ (length (now heads) ≡ 32) × (length (now rows) ≡ 128) ⌝ }
+    requires { ⌜ (length (now heads) ≡ transactionPlaces) × (length (now rows) ≡ enlistmentPlaces) ⌝ }
     ensures { λ r. ⌜ r ≡ tableIn (now (heads .entry)) (now (rows .entry)) capacity used ⌝ }
 {
     let transactions = transactions_in(heads);
@@ -95,7 +96,7 @@ pub fn take_out(
     capacity: u32,
     used: u32,
 ) -> Holding
-    requires { ⌜ (length (now heads) ≡ 32) × (length (now rows) ≡ 128) × (length (filter (heldBy p) (map enlistmentIn (now rows))) ≤ 16) ⌝ }
+    requires { ⌜ (length (now heads) ≡ transactionPlaces) × (length (now rows) ≡ enlistmentPlaces) × (length (filter (heldBy p) (map enlistmentIn (now rows))) ≤ heldMost) ⌝ }
     ensures { λ r. ⌜ ((size : ℕ) → r ≡ taken p capacity (tableIn (now (heads .entry)) (now (rows .entry)) size used)) ⌝ }
 {
     let x = lent_places::transaction_at(heads, p);
@@ -112,7 +113,7 @@ pub fn take_out(
     let mut i: usize = 0;
     while i < sizes::ENLISTMENTS {
         let row = rows[i];
-        let mine = row[20] == p;
+        let mine = row[rows::HOLDER_AT] == p;
         i += 1;
         if mine {
             let e = rows::enlistment_in(row);
@@ -125,8 +126,8 @@ pub fn take_out(
 
 // Each of those that its transaction held is what became of it.
 fn put_rows(rows: &mut [[u8; 24]; 128], h: Holding)
-    requires { ⌜ (length (now rows) ≡ 128) × (count (heldBy (h .place)) (map enlistmentIn (now rows)) ≤ 16) ⌝ }
-    ensures { λ r. ⌜ (length (now (rows .exit)) ≡ 128) × (map enlistmentIn (now (rows .exit)) ≡ refill (heldBy (h .place)) (h .enlistments) (map enlistmentIn (now (rows .entry)))) ⌝ }
+    requires { ⌜ (length (now rows) ≡ enlistmentPlaces) × (count (heldBy (h .place)) (map enlistmentIn (now rows)) ≤ heldMost) ⌝ }
+    ensures { λ r. ⌜ (length (now (rows .exit)) ≡ enlistmentPlaces) × (map enlistmentIn (now (rows .exit)) ≡ refill (heldBy (h .place)) (h .enlistments) (map enlistmentIn (now (rows .entry)))) ⌝ }
 {
     let p = h.place;
     let mut k: usize = 0;
@@ -134,7 +135,7 @@ fn put_rows(rows: &mut [[u8; 24]; 128], h: Holding)
     while i < sizes::ENLISTMENTS {
         let at = i;
         let row = rows[at];
-        let mine = row[20] == p;
+        let mine = row[rows::HOLDER_AT] == p;
         i += 1;
         if mine {
             let e = h.enlistments[k];
@@ -146,8 +147,8 @@ fn put_rows(rows: &mut [[u8; 24]; 128], h: Holding)
 }
 
 pub fn put_back(heads: &mut [[u8; 17]; 32], rows: &mut [[u8; 24]; 128], h: Holding)
-    requires { ⌜ (length (now heads) ≡ 32) × (length (now rows) ≡ 128) × (count (heldBy (h .place)) (map enlistmentIn (now rows)) ≤ 16) ⌝ }
-    ensures { λ r. ⌜ (length (now (heads .exit)) ≡ 32) × (length (now (rows .exit)) ≡ 128)
+    requires { ⌜ (length (now heads) ≡ transactionPlaces) × (length (now rows) ≡ enlistmentPlaces) × (count (heldBy (h .place)) (map enlistmentIn (now rows)) ≤ heldMost) ⌝ }
+    ensures { λ r. ⌜ (length (now (heads .exit)) ≡ transactionPlaces) × (length (now (rows .exit)) ≡ enlistmentPlaces)
         × (map transactionIn (now (heads .exit)) ≡ changeAt (h .place) (λ x. h .transaction) (map transactionIn (now (heads .entry))))
         × (map enlistmentIn (now (rows .exit)) ≡ refill (heldBy (h .place)) (h .enlistments) (map enlistmentIn (now (rows .entry)))) ⌝ }
 {

@@ -2,11 +2,11 @@
 
 ghost use mathlib.Core.Path.{_≡_};
 ghost use mathlib.Core.List.{map};
-ghost use Prim.Native.Nat.{_+_, _*_, _<_, _≤_};
+ghost use Prim.Native.Nat.{_+_, _*_, _≤_};
 ghost use lib.ListN.{length, take};
 ghost use lib.Seq.{sets};
-ghost use Rattle.rules.specs.Sizes.{identifierSize, entrySize};
-ghost use Rattle.rules.specs.Log.{Record, low4, entryBytes, entriesBytes, recordBytes, written};
+ghost use Rattle.rules.specs.Sizes.{signalsMost, identifierSize, largestNumber, recordSize, entrySize};
+ghost use Rattle.rules.specs.Log.{Record, low4, entryBytes, entriesBytes, recordBytes, commitSize, written};
 ghost use Rattle.rules.specs.Events.{entryOf};
 use rules::Enlistment;
 use rules::sizes;
@@ -17,7 +17,7 @@ const RECORD: usize = sizes::RECORD as usize;
 const ENTRY: usize = sizes::ENTRY as usize;
 
 fn put_identifier(log: &mut [u8], at: usize, id: [u8; 16])
-    requires { ⌜ at < 8589934592 ⌝ }
+    requires { ⌜ at ≤ largestNumber + commitSize signalsMost ⌝ }
     ensures { λ r. ⌜ (now (log .exit) ≡ sets (now (log .entry)) at id) × (length id ≡ identifierSize) ⌝ }
 {
     let mut i: usize = 0;
@@ -29,7 +29,7 @@ fn put_identifier(log: &mut [u8], at: usize, id: [u8; 16])
 
 // 4 bytes, low first.
 fn put_number(log: &mut [u8], at: usize, n: u32)
-    requires { ⌜ at < 8589934592 ⌝ }
+    requires { ⌜ at ≤ largestNumber + commitSize signalsMost ⌝ }
     ensures { λ r. ⌜ now (log .exit) ≡ sets (now (log .entry)) at (low4 n) ⌝ }
 {
     let bytes = basics::low_of(n);
@@ -41,7 +41,7 @@ fn put_number(log: &mut [u8], at: usize, n: u32)
 }
 
 fn put_entry(log: &mut [u8], at: usize, e: Enlistment)
-    requires { ⌜ at < 8589934000 ⌝ }
+    requires { ⌜ at + entrySize ≤ largestNumber + commitSize signalsMost ⌝ }
     ensures { λ r. ⌜ (now (log .exit) ≡ sets (now (log .entry)) at (entryBytes (entryOf e))) × (length (entryBytes (entryOf e)) ≡ entrySize) ⌝ }
 {
     let r = e.rm;
@@ -51,7 +51,7 @@ fn put_entry(log: &mut [u8], at: usize, e: Enlistment)
 }
 
 fn put_entries(log: &mut [u8], at: usize, entries: [Enlistment; 17], count: usize)
-    requires { ⌜ (count ≤ 17) × (at < 8589930000) ⌝ }
+    requires { ⌜ (count ≤ signalsMost) × (at ≤ largestNumber + recordSize) ⌝ }
     ensures { λ r. ⌜ (now (log .exit) ≡ sets (now (log .entry)) at (entriesBytes (map entryOf (take count entries)))) × (length (entriesBytes (map entryOf (take count entries))) ≡ entrySize * count) ⌝ }
 {
     let mut i: usize = 0;
@@ -64,9 +64,9 @@ fn put_entries(log: &mut [u8], at: usize, entries: [Enlistment; 17], count: usiz
 
 // Its size is returned.
 pub fn put_commit(log: &mut [u8], used: u32, id: [u8; 16], line: Line) -> u32
-    requires { ⌜ line .count ≤ 17 ⌝ }
+    requires { ⌜ line .count ≤ signalsMost ⌝ }
     ensures { λ r. ⌜ (now (log .exit) ≡ written used (recordBytes (Record.commit id (map entryOf (take (line .count) (line .items))))) (now (log .entry)))
-        × (r ≡ length (recordBytes (Record.commit id (map entryOf (take (line .count) (line .items)))))) × (r ≤ 358) ⌝ }
+        × (r ≡ length (recordBytes (Record.commit id (map entryOf (take (line .count) (line .items)))))) × (r ≤ commitSize signalsMost) ⌝ }
 {
     let at = used as usize;
     let entries = line.items;
@@ -80,7 +80,7 @@ pub fn put_commit(log: &mut [u8], used: u32, id: [u8; 16], line: Line) -> u32
 
 pub fn put_forget(log: &mut [u8], used: u32, id: [u8; 16]) -> u32
     ensures { λ r. ⌜ (now (log .exit) ≡ written used (recordBytes (Record.forget id)) (now (log .entry)))
-        × (r ≡ length (recordBytes (Record.forget id))) × (r ≤ 358) ⌝ }
+        × (r ≡ length (recordBytes (Record.forget id))) × (r ≤ commitSize signalsMost) ⌝ }
 {
     let at = used as usize;
     log_bytes::put(log, at, first_bytes::FORGET);

@@ -71,6 +71,6 @@ summed-next {os} {sum} {i} {m} log p s h n e few =
     let q : length (entriesOpen os) ≡ sum + length (entriesAt log p ++ entriesOpen (drop (i + 1) os)) = rw n at (s .same) in
     record { within = omega arith; few = omega (arith, s .few); same = omega (arith, length-append (entriesAt log p) (entriesOpen (drop (i + 1) os)), entries-long log p) }
 
-pub summed-done : {os : List Open} {sum i : ℕ} → Summed os sum i → drop i os ≡ [] → (sum ≡ length (entriesOpen os)) × (sum ≤ 8160)
+pub summed-done : {os : List Open} {sum i : ℕ} → Summed os sum i → drop i os ≡ [] → (sum ≡ length (entriesOpen os)) × (sum ≤ transactionPlaces * 255)
 unfolding entriesOpen
 summed-done {os} {sum} s n = let q : length (entriesOpen os) ≡ sum + 0 = rw n at (s .same) in (omega arith, omega (arith, s .few))

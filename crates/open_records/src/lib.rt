@@ -1,7 +1,7 @@
 // The records that are open while a log is read. An open record is held by the place in the log where it begins.
 
 ghost use mathlib.Core.Path.{_≡_};
-ghost use Prim.Native.Nat.{_≤_};
+ghost use Prim.Native.Nat.{_*_, _≤_};
 ghost use lib.Dec.{eqb};
 ghost use lib.ListN.{length};
 ghost use Rattle.lists.specs.Lists.{any};
@@ -91,7 +91,7 @@ pub fn has_held(log: &[u8], records: OpenRecords, at: usize) -> bool
 }
 
 pub fn entries_open(log: &[u8], records: OpenRecords) -> usize
-    ensures { λ r. ⌜ (r ≡ length (entriesOpen (opensOf (now (log .entry)) records))) × (r ≤ 8160) ⌝ }
+    ensures { λ r. ⌜ (r ≡ length (entriesOpen (opensOf (now (log .entry)) records))) × (r ≤ transactionPlaces * 255) ⌝ }
 {
     let n = count_of(records);
     let mut sum: usize = 0;

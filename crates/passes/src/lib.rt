@@ -3,6 +3,7 @@
 ghost use mathlib.Core.Path.{_≡_};
 ghost use mathlib.Core.Bool.{cond};
 ghost use Prim.Native.Nat.{_<_};
+ghost use Rattle.rules.specs.Sizes.{enlistmentPlaces};
 ghost use Rattle.rules.specs.Table.{held, heldBy, freed, inState, onNumber};
 ghost use Rattle.rules.specs.Events.{zeroedOf, hearsAbort, abortedOf, committedOf};
 ghost use Rattle.passes.specs.Census.{censusOf, moreOf, countedOf, Below};
@@ -27,14 +28,14 @@ pub struct Census {
 
 // One more if so.
 pub fn more(n: u8, so: bool) -> u8
-    requires { ⌜ n < 128 ⌝ }
+    requires { ⌜ n < enlistmentPlaces ⌝ }
     ensures { λ r. ⌜ r ≡ moreOf so n ⌝ }
 {
     if so { n + 1 } else { n }
 }
 
 fn counted(c: Census, e: Enlistment) -> Census
-    requires { ⌜ Below 128 c ⌝ }
+    requires { ⌜ Below enlistmentPlaces c ⌝ }
     ensures { λ r. ⌜ r ≡ countedOf e c ⌝ }
 {
     let held = more(c.held, true);
@@ -56,7 +57,7 @@ fn counted(c: Census, e: Enlistment) -> Census
 }
 
 pub fn counted_held(c: Census, e: Enlistment, p: u8) -> Census
-    requires { ⌜ Below 128 c ⌝ }
+    requires { ⌜ Below enlistmentPlaces c ⌝ }
     ensures { λ r. ⌜ r ≡ cond (heldBy p e) (countedOf e c) c ⌝ }
 {
     let mine = e.holder == p;

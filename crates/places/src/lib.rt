@@ -64,7 +64,7 @@ pub fn transaction_at(table: Table, p: u8) -> Transaction
         return no_transaction();
     }
     let k = (p - 1) as usize;
-    if k < 32 {
+    if k < sizes::TRANSACTIONS {
         return table.transactions[k];
     }
     no_transaction()
@@ -77,7 +77,7 @@ pub fn put_transaction(table: Table, p: u8, x: Transaction) -> Table
         return table;
     }
     let k = (p - 1) as usize;
-    if k < 32 {
+    if k < sizes::TRANSACTIONS {
         let mut u = table;
         u.transactions[k] = x;
         return u;
@@ -92,7 +92,7 @@ pub fn put_enlistment(table: Table, p: u8, e: Enlistment) -> Table
         return table;
     }
     let k = (p - 1) as usize;
-    if k < 128 {
+    if k < sizes::ENLISTMENTS {
         let mut u = table;
         u.enlistments[k] = e;
         return u;

@@ -19,9 +19,10 @@ use Rattle.lists.proofs.Loops.{drop-at, drop-done}
 use Rattle.rules.specs.declared.Enlistment.{Enlistment}
 use Rattle.rules.specs.declared.Table.{Table}
 use Rattle.rules.specs.Identifiers.{Id}
-use Rattle.rules.specs.Sizes.{transactionPlaces, enlistmentPlaces, heldMost}
+use Rattle.rules.specs.Sizes.{transactionPlaces, enlistmentPlaces, heldMost, signalsMost, largestCapacity}
 use Rattle.rules.specs.EnlistmentState as enlistment
 use Rattle.rules.specs.Table.{noTransaction, stateAt, heldBy, held, isDurableOf, isIn, inState, freed, withEnlistments, changeHeld, changeTransaction, useMore}
+use Rattle.rules.specs.Log.{commitSize}
 use Rattle.rules.specs.Sound.{isOpen}
 use Rattle.rules.specs.Events.{quietly, append, endOf, doneFor, byIdentifier, finished, endEach, reenlistedOf}
 use Rattle.rules.proofs.Frames.{held-other, held-shorter}
@@ -40,7 +41,7 @@ use Rattle.orders.specs.Orders.{orderOf}
 use Rattle.orders.specs.Which.{isFinished}
 use Rattle.orders.proofs.Laws.{order-take}
 use Rattle.endings.specs.Gives.{Leaves, Ready}
-use Rattle.reenlisting.specs.Ends.{Few, usedFirst, ReadyIn, LeavesIn}
+use Rattle.reenlisting.specs.Ends.{Few, ReadyIn, LeavesIn}
 
 -- ── one end ─────────────────────────────────────────────────────────────────────────────────────────────────────
 
@@ -66,7 +67,7 @@ pub record Ended (n : ℕ) (ps : List ℕ) (tb₀ : Table) (log₀ : List ℕ) (
   pub size : length log ≡ length log₀
   pub heads-long : length heads ≡ transactionPlaces
   pub rows-long : length rows ≡ enlistmentPlaces
-  pub used-most : used ≤ tb₀ .used + 358 * i
+  pub used-most : used ≤ tb₀ .used + commitSize signalsMost * i
   pub few : Few (tableIn heads rows capacity used)
   pub same : endEach ps tb₀ log₀ ≡ endEach (drop i ps) (tableIn heads rows capacity used) log
 
@@ -91,7 +92,7 @@ module _ {n : ℕ} {ps : List ℕ} {tb₀ : Table} {log₀ : List ℕ} {capacity
     pub ended-few : length (held p (tableIn heads rows capacity used)) ≤ heldMost
     ended-few = e .few p (ended-place .0)
 
-    pub ended-ready : {h : Holding} → h ≡ taken p 0 (tableIn heads rows capacity used) → n ≤ transactionPlaces → tb₀ .used ≤ usedFirst → Ready h
+    pub ended-ready : {h : Holding} → h ≡ taken p 0 (tableIn heads rows capacity used) → n ≤ transactionPlaces → tb₀ .used ≤ largestCapacity → Ready h
     ended-ready t l u = rw t (ended-place, omega (arith, e .used-most, e .within))
 
     pub ended-back : {h : Holding} {q : ℕ} → h ≡ taken p 0 (tableIn heads rows capacity used) → q ≡ h .place → count (heldBy q) (map enlistmentIn rows) ≤ heldMost
@@ -99,7 +100,7 @@ module _ {n : ℕ} {ps : List ℕ} {tb₀ : Table} {log₀ : List ℕ} {capacity
     ended-back t q = rw (q, t, count-filter) ended-few
 
     pub ended-again : {h h′ : Holding} {heads′ rows′ : List (List ℕ)} {log′ : List ℕ} → h ≡ taken p 0 (tableIn heads rows capacity used)
-        → Leaves (h .place) (endOf (h .place) (alone h) log) h′ log′ → h′ .used ≤ h .used + 358 → length log′ ≡ length log → length heads′ ≡ transactionPlaces → length rows′ ≡ enlistmentPlaces
+        → Leaves (h .place) (endOf (h .place) (alone h) log) h′ log′ → h′ .used ≤ h .used + commitSize signalsMost → length log′ ≡ length log → length heads′ ≡ transactionPlaces → length rows′ ≡ enlistmentPlaces
         → map transactionIn heads′ ≡ changeAt (h′ .place) (λ x. h′ .transaction) (map transactionIn heads) → map enlistmentIn rows′ ≡ refill (heldBy (h′ .place)) (h′ .enlistments) (map enlistmentIn rows)
         → Ended n ps tb₀ log₀ capacity heads′ rows′ log′ (h′ .used) (i + 1)
     unfolding endEach

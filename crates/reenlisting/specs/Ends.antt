@@ -4,7 +4,7 @@ use mathlib.Core.Path.{_≡_}
 use mathlib.Core.List.{List}
 use lib.ListN.{length}
 use Rattle.rules.specs.declared.Table.{Table}
-use Rattle.rules.specs.Sizes.{transactionPlaces, enlistmentPlaces, heldMost}
+use Rattle.rules.specs.Sizes.{transactionPlaces, enlistmentPlaces, heldMost, largestCapacity}
 use Rattle.rules.specs.Table.{held}
 use Rattle.rules.specs.Events.{Outcome}
 use Rattle.rows.specs.Memory.{tableIn}
@@ -13,14 +13,10 @@ use Rattle.rows.specs.Memory.{tableIn}
 abbrev pub Few : Table → Type 0
 Few tb = (p : ℕ) → 1 ≤ p → length (held p tb) ≤ heldMost
 
--- so far below the largest number that what all the ends add to the used length fits
-abbrev pub usedFirst : ℕ
-usedFirst = 100000
-
 pub record ReadyIn (heads rows : List (List ℕ)) (capacity used : ℕ) : Type 0 where
   pub heads-long : length heads ≡ transactionPlaces
   pub rows-long : length rows ≡ enlistmentPlaces
-  pub used-first : used ≤ usedFirst
+  pub used-first : used ≤ largestCapacity
   pub few : Few (tableIn heads rows capacity used)
 
 -- the memory holds the outcome's table, with this used length; and the log is as the outcome leaves it

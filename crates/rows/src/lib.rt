@@ -3,15 +3,28 @@
 ghost use mathlib.Core.Path.{_≡_};
 ghost use Prim.Native.Nat.{_≤_};
 ghost use lib.ListN.{length, take};
+ghost use Rattle.rules.specs.Sizes.{identifierSize};
 ghost use Rattle.rows.specs.Memory.{transactionIn, numberIn, enlistmentIn};
 use rules::Enlistment;
 use rules::RmId;
 use rules::Transaction;
 use rules::TxId;
 
+// Where a head has the transaction's state, behind its identifier.
+pub const HEAD_STATE_AT: usize = 16;
+
+// Where a row has the enlistment's holder, kind, mark and state, behind its RM and its number.
+pub const HOLDER_AT: usize = 20;
+
+pub const KIND_AT: usize = 21;
+
+pub const MARK_AT: usize = 22;
+
+pub const STATE_AT: usize = 23;
+
 pub fn identifier_in(bytes: &[u8]) -> [u8; 16]
-    requires { ⌜ 16 ≤ length (now bytes) ⌝ }
-    ensures { λ r. ⌜ r ≡ take 16 (now (bytes .entry)) ⌝ }
+    requires { ⌜ identifierSize ≤ length (now bytes) ⌝ }
+    ensures { λ r. ⌜ r ≡ take identifierSize (now (bytes .entry)) ⌝ }
 {
     [
         bytes[0],
@@ -39,7 +52,7 @@ pub fn transaction_in(head: [u8; 17]) -> Transaction
     let id = identifier_in(&head);
     Transaction {
         id: TxId(id),
-        state: head[16],
+        state: head[HEAD_STATE_AT],
     }
 }
 
@@ -55,12 +68,12 @@ pub fn enlistment_in(row: [u8; 24]) -> Enlistment
     let rm = identifier_in(&row);
     let n = number_in(row);
     Enlistment {
-        holder: row[20],
+        holder: row[HOLDER_AT],
         rm: RmId(rm),
         number: n,
-        kind: row[21],
-        mark: row[22],
-        state: row[23],
+        kind: row[KIND_AT],
+        mark: row[MARK_AT],
+        state: row[STATE_AT],
     }
 }
 

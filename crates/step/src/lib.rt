@@ -2,6 +2,7 @@
 
 ghost use mathlib.Core.Path.{_≡_};
 ghost use lib.ListN.{length};
+ghost use Rattle.rules.specs.Sizes.{transactionPlaces, enlistmentPlaces};
 ghost use Rattle.rules.specs.Table.{freshOf};
 ghost use Rattle.rules.specs.Sound.{soundOf};
 ghost use Rattle.rules.specs.Step.{IsStep};
@@ -36,7 +37,7 @@ pub fn step_in(
     event: Event,
     log: &mut [u8],
 ) -> Answer
-    requires { ⌜ (length (now heads) ≡ 32) × (length (now rows) ≡ 128) × (sound ≡ soundOf (tableIn (now heads) (now rows) capacity used)) ⌝ }
+    requires { ⌜ (length (now heads) ≡ transactionPlaces) × (length (now rows) ≡ enlistmentPlaces) × (sound ≡ soundOf (tableIn (now heads) (now rows) capacity used)) ⌝ }
     ensures { λ r. ⌜ IsStepIn (tableIn (now (heads .entry)) (now (rows .entry)) capacity used) event (now (log .entry)) r (now (heads .exit)) (now (rows .exit)) (now (log .exit)) ⌝ }
 {
     let why = refusals::first(sound, log.len(), capacity);

@@ -4,6 +4,7 @@ ghost use Prim.Native.Nat.{ℕ};
 ghost use mathlib.Core.Path.{_≡_};
 ghost use mathlib.Core.List.{[]};
 ghost use lib.ListN.{length};
+ghost use Rattle.rules.specs.Sizes.{transactionPlaces, enlistmentPlaces};
 ghost use Rattle.rules.specs.declared.Event.{Event};
 ghost use Rattle.rules.specs.declared.Order.{Order};
 ghost use Rattle.rules.specs.RefusalNumber.{unreadableLine};
@@ -35,7 +36,7 @@ pub struct Left {
 
 // A table is put into lent memory, all but its capacity and its used length.
 pub fn put_table(table: Table, heads: &mut [[u8; 17]; 32], rows: &mut [[u8; 24]; 128])
-    requires { ⌜ (length (now heads) ≡ 32) × (length (now rows) ≡ 128) ⌝ }
+    requires { ⌜ (length (now heads) ≡ transactionPlaces) × (length (now rows) ≡ enlistmentPlaces) ⌝ }
     ensures { λ r. ⌜ Holds (now (heads .exit)) (now (rows .exit)) table ⌝ }
 {
     let transactions = table.transactions;
@@ -85,7 +86,7 @@ fn obey_restart(
     log: &mut [u8],
     buffer: &mut [u8; OUTPUT],
 ) -> Left
-    requires { ⌜ (length (now heads) ≡ 32) × (length (now rows) ≡ 128) ⌝ }
+    requires { ⌜ (length (now heads) ≡ transactionPlaces) × (length (now rows) ≡ enlistmentPlaces) ⌝ }
     ensures { λ r. ⌜ ((e : Event) (capacity : ℕ) → ObeysIn (obeyed Order.Restart e (tableIn (now (heads .entry)) (now (rows .entry)) capacity used) (now (log .entry))) (now (buffer .entry)) r (now (heads .exit)) (now (rows .exit)) (now (log .exit)) (now (buffer .exit))) × (r .sound ≡ soundOf (tableIn (now (heads .exit)) (now (rows .exit)) (r .capacity) (r .used))) ⌝ }
 {
     let r = restart::restart(log, used as usize);
@@ -106,7 +107,7 @@ fn obey_step(
     log: &mut [u8],
     buffer: &mut [u8; OUTPUT],
 ) -> Left
-    requires { ⌜ (length (now heads) ≡ 32) × (length (now rows) ≡ 128) × (sound ≡ soundOf (tableIn (now heads) (now rows) capacity used)) ⌝ }
+    requires { ⌜ (length (now heads) ≡ transactionPlaces) × (length (now rows) ≡ enlistmentPlaces) × (sound ≡ soundOf (tableIn (now heads) (now rows) capacity used)) ⌝ }
     ensures { λ r. ⌜ ObeysIn (obeyed Order.Step event (tableIn (now (heads .entry)) (now (rows .entry)) capacity used) (now (log .entry))) (now (buffer .entry)) r (now (heads .exit)) (now (rows .exit)) (now (log .exit)) (now (buffer .exit)) × (r .sound ≡ sound) ⌝ }
 {
     let a = step::step_in(heads, rows, capacity, used, sound, event, log);
@@ -125,7 +126,7 @@ pub fn obey_in(
     log: &mut [u8],
     buffer: &mut [u8; OUTPUT],
 ) -> Left
-    requires { ⌜ (length (now heads) ≡ 32) × (length (now rows) ≡ 128) × (sound ≡ soundOf (tableIn (now heads) (now rows) capacity used)) ⌝ }
+    requires { ⌜ (length (now heads) ≡ transactionPlaces) × (length (now rows) ≡ enlistmentPlaces) × (sound ≡ soundOf (tableIn (now heads) (now rows) capacity used)) ⌝ }
     ensures { λ r. ⌜ ObeysIn (tracedOf (now (line .entry)) (tableIn (now (heads .entry)) (now (rows .entry)) capacity used) (now (log .entry))) (now (buffer .entry)) r (now (heads .exit)) (now (rows .exit)) (now (log .exit)) (now (buffer .exit)) × (r .sound ≡ soundOf (tableIn (now (heads .exit)) (now (rows .exit)) (r .capacity) (r .used))) ⌝ }
 {
     let command = trace_line::read_line(line);

@@ -1,4 +1,4 @@
--- `dispenser::larger` meets its contract: its test is the definition's.
+-- The definition takes the second number where it is above the first, which is what the code asks.
 use Rattle.dispenser.proofs.larger.Statement.{statement}
 use Rattle.dispenser.proofs.larger.Tie as tie
 

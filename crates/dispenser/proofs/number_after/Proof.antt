@@ -1,4 +1,4 @@
--- `dispenser::number_after` meets its contract: its test is the definition's.
+-- Behind the largest number there is none, which is 0 in the definition as well; below it one more does not wrap.
 use borrow.Author.Needs.{needs}
 use borrow.Author.Tests.{le-leb, lt-leb}
 use Rattle.dispenser.proofs.number_after.Statement.{statement}

@@ -1,4 +1,4 @@
--- A pass of the change over the places.
+-- Each turn changes the enlistment of one place if it is held, so that what is left to change gives the change of all.
 use Prim.Native.Nat.{_-_}
 use borrow.Author.Needs.{needs}
 use Rattle.lists.proofs.Loops.{long}

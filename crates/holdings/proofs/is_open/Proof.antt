@@ -1,4 +1,4 @@
--- A transaction with a durable enlistment counts one.
+-- One is durable if and only if the count of the durable is not 0, which the code asks of a Committing transaction alone, as the definition does.
 use mathlib.Core.Path.{ap}
 use mathlib.Core.Bool.{not}
 use lib.Dec.{eqb}

@@ -1,4 +1,4 @@
--- The rows are tested in their order.
+-- The rows in front of the one that is looked at have failed the test, so that what is left says whether one passes it.
 use Prim.Native.Nat.{_-_}
 use mathlib.Core.Path.{refl, sym, _∙_}
 use mathlib.Core.Bool.{_&&_}

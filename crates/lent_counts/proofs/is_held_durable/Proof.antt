@@ -1,4 +1,4 @@
--- Both bytes are read where they stand.
+-- A row has its holder and its kind in the bytes that the code compares, and one that another holds fails the definition's first test.
 use borrow.Author.Needs.{needs}
 use Rattle.rows.specs.Memory.{enlistmentIn}
 use Rattle.lent_counts.proofs.is_held_durable.Statement.{statement}

@@ -1,4 +1,4 @@
--- A free place is not looked at.
+-- A free place fails the definition's first test; of a live one the 16 bytes of the head are its identifier.
 use borrow.Author.Needs.{needs}
 use Rattle.rows.specs.Memory.{transactionIn}
 use Rattle.lent_places.proofs.is_named.Statement.{statement}

@@ -1,4 +1,4 @@
--- The places are tested in their order.
+-- The places in front of the one that is looked at have failed the test, so that the first that passes it is the definition's.
 use Prim.Native.Nat.{_-_}
 use mathlib.Core.Path.{refl, _∙_}
 use mathlib.Core.List.{map}

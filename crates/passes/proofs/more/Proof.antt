@@ -1,4 +1,4 @@
--- One more is the next number.
+-- The definition, too, adds one where the test passes and nothing where it fails.
 use native.Mathlib.Numerals.{add-one}
 use borrow.Author.Needs.{needs}
 use Rattle.passes.proofs.more.Statement.{statement}

@@ -1,4 +1,4 @@
--- The tests are those of the definition; the first that holds decides.
+-- The definition joins the three tests by or, so that the first that holds decides it.
 use Rattle.restart.proofs.is_outside.Statement.{statement}
 use Rattle.restart.proofs.is_outside.Tie as tie
 

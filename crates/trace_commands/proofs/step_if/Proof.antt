@@ -1,4 +1,4 @@
--- The test is the definition's.
+-- Where a part could not be read the definition's command is unreadable too, and where all could it is the step's.
 use borrow.Author.Needs.{needs}
 use Rattle.trace_commands.proofs.step_if.Statement.{statement}
 use Rattle.trace_commands.proofs.step_if.Tie as tie

@@ -1,4 +1,4 @@
--- `trace_run::obey_step` meets its contract: it answers what the step does.
+-- The line is the answer that is written of the step's, and the step's contract says which that is.
 use Rattle.trace_run.proofs.Laws.{step-obeys}
 use borrow.Author.Needs.{needs}
 use Rattle.trace_run.proofs.obey_step.Statement.{statement}

@@ -1,4 +1,4 @@
--- `trace_run::obey_unreadable` meets its contract: it answers 16 without a signal.
+-- The definition, too, answers 16 with no signal and leaves table and log, so that the line that is written is its line.
 use borrow.Author.Needs.{needs}
 use Rattle.trace_run.proofs.obey_unreadable.Statement.{statement}
 use Rattle.trace_run.proofs.obey_unreadable.Tie as tie
