@@ -212,12 +212,6 @@ absent-ended t p tb alone = record {
       (λ e. is-false (isNamed t (transactionAt q (changeTransaction p ended tb))) (λ n. eqb-false q p e (alone q (ap (isNamed t) (sym (at-other p ended tb q (eqb-false q p e))) ∙ n))));
 }
 
--- what is unnamed at a place stays so, whoever ends
-pub unnamed-ended : (t : Id) (p q : ℕ) (tb : Table) → isNamed t (transactionAt q tb) ≡ false → isNamed t (transactionAt q (changeTransaction p ended tb)) ≡ false
-unnamed-ended t p q tb n = by-test (eqb q p)
-    (λ e. rw (eqb-true q p e) (at-changed p ended tb (λ c. ap (isNamed t) c) (λ c. ap (isNamed t) c)))
-    (λ e. ap (isNamed t) (at-other p ended tb q (eqb-false q p e)) ∙ n)
-
 -- ── the log ─────────────────────────────────────────────────────────────────────────────────────────────────────
 
 -- what is written where it fits stands behind what was there

@@ -120,7 +120,7 @@ module _ (r : Id) (tb : Table) where
   done-committed : (e : Enlistment) → Committed e → Committed (doneFor r e)
   done-committed e c = by-test (isDurableOf r e && isIn enlistment.failedToNotify e) (λ t. rw t (inr (inr refl))) (λ t. rw t c)
 
-  pub not-durable : (e : Enlistment) → isDurableOf r e ≡ false → doneFor r e ≡ e
+  not-durable : (e : Enlistment) → isDurableOf r e ≡ false → doneFor r e ≡ e
   not-durable e t = rw t
 
   not-failed : (e : Enlistment) → (In enlistment.failedToNotify e → ⊥) → doneFor r e ≡ e
