@@ -128,7 +128,7 @@ module _ (tb : Table) (log : List ℕ) (os : List Open) (r : Ready tb log os) wh
   pub shown-open : (o : Open) → o ∈ os → Shown (o .entries) (viewOf (o .id) tb)
   shown-open o m = shown (o .entries) (viewOf (o .id) tb) (r .storied (o .id)) (story-open o m) (r .agrees (o .id))
 
-  pub open-at : (o : Open) → o ∈ os → OpenAt o tb
+  open-at : (o : Open) → o ∈ os → OpenAt o tb
   open-at o m = open-shown o tb (shown-open o m)
 
 -- ── each open one at a place of its own ─────────────────────────────────────────────────────────────────────────
@@ -161,7 +161,7 @@ module _ (T : Table) where
       go p s = rw (← s .holds) (in-places (λ q x. isOpen (x .state) (held q T)) noTransaction (T .transactions) (named-place (s .it .id) (placeNamed (s .it .id) T) T (placed (s .it) (h (s .it) (s .there)))) (is-open (s .it) (h (s .it) (s .there))))
 
   -- and one more that is live, and not in Committing
-  pub open-and-one : (t : Id) (p : ℕ) (os : List Open) → isNamed t (transactionAt p T) ≡ true → (stateAt p T ≡ transaction.committing → ⊥) → Apart (λ o q. o .id ≡ q .id) os → Each (λ o. OpenAt o T) os → length os + 1 ≤ length (T .transactions)
+  open-and-one : (t : Id) (p : ℕ) (os : List Open) → isNamed t (transactionAt p T) ≡ true → (stateAt p T ≡ transaction.committing → ⊥) → Apart (λ o q. o .id ≡ q .id) os → Each (λ o. OpenAt o T) os → length os + 1 ≤ length (T .transactions)
   open-and-one t p os l n a h = omega (arith, most, length-map os (λ o. placeNamed (o .id) T), no-more (p ∷ placesOf os) live (more (λ q m e. other q (of-map (λ o. placeNamed (o .id) T) os m) e) (places-apart os a h)) in-live)
     where
       live : List ℕ

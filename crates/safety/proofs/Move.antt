@@ -23,7 +23,7 @@ use Rattle.safety.specs.Demand3.{About, Votes, Yes, VotedYes, AllVotedYe
 use Rattle.safety.proofs.Alone.{Story, none, open-with, closed, bad, Below, below-refl, below-trans, Logged, none-not-open, closed-not-open, View, out, early, voting, single, committing, aborting, Hopes, Waits, Is, Unasked, Preparing, NoDurable, managersOf, Entered, Begun, NoAsk, Good, AsksIn, New, Any, Base, Undecided, Shape, ShapeVoting, ShapeCommitting}
 
 -- the note tells neither of an enlistment nor of a vote
-abbrev pub isCalm : Note → Bool
+abbrev isCalm : Note → Bool
 isCalm (Note.begun t) = true
 isCalm (Note.enlisted t n r k) = false
 isCalm (Note.voted t n r k v) = false
@@ -131,7 +131,7 @@ module _ (t : Id) where
 
   -- ── small laws ────────────────────────────────────────────────────────────────────────────────────────────────
 
-  pub any-new : (P : Name → Type 0) (image : List ℕ) (ms : List Message) (waiting sent : List Issued) → Any t P (issue image ms ++ waiting) sent → New t P ms ⊎ Any t P waiting sent
+  any-new : (P : Name → Type 0) (image : List ℕ) (ms : List Message) (waiting sent : List Issued) → Any t P (issue image ms ++ waiting) sent → New t P ms ⊎ Any t P waiting sent
   any-new P image ms waiting sent (inr s) = inr (inr s)
   any-new P image ms waiting sent (inl s) = go (List·Memᴰ·append-cases (issue image ms) (s .there))
     where
@@ -142,7 +142,7 @@ module _ (t : Id) where
       go (inl i) = inl (new (Memᴰ·of-map (λ m. record { image = image; message = m }) ms i))
       go (inr i) = inr (inl (record { it = s .it; there = i; holds = s .holds }))
 
-  pub may-ask : {r : Id} {x : Note} {h : List Note} → MayAsk t r (x ∷ h) → Prepares t r x ⊎ ((Closes t r x → ⊥) × MayAsk t r h)
+  may-ask : {r : Id} {x : Note} {h : List Note} → MayAsk t r (x ∷ h) → Prepares t r x ⊎ ((Closes t r x → ⊥) × MayAsk t r h)
   may-ask (now p) = inl p
   may-ask (still c m) = inr (c, m)
 
@@ -183,16 +183,16 @@ module _ (t : Id) where
   -- ── the invariant of the base ─────────────────────────────────────────────────────────────────────────────────
 
   module _ (storyOf : List ℕ → Story) (disk log log′ : Story) (h : List Note) (x : Note) (ms issued : List Message) (waiting sent : List Issued) (image : List ℕ) (imaged : storyOf image ≡ log′) where
-    abbrev pub Old : Type 0
+    abbrev Old : Type 0
     Old = Base t storyOf log disk h waiting sent issued
 
-    abbrev pub Next : Type 0
+    abbrev Next : Type 0
     Next = Base t storyOf log′ disk (x ∷ h) (issue image ms ++ waiting) sent (ms ++ issued)
 
-    abbrev pub Committed′ : Type 0
+    abbrev Committed′ : Type 0
     Committed′ = Any t Committed (issue image ms ++ waiting) sent
 
-    abbrev pub Aborted′ : Type 0
+    abbrev Aborted′ : Type 0
     Aborted′ = Any t Aborted (issue image ms ++ waiting) sent
 
     -- a commit message among those that wait is new, or waited before
@@ -319,7 +319,7 @@ module _ (t : Id) where
     make-undecided : Old → Undecided t log h waiting sent → log′ ≡ log → Quiet ms → Next
     make-undecided b u e q = make-none b (u .begun) (e ∙ u .log-none) (u .log-none) (no-committed′ (q .no-committed) (u .no-committed)) (u .no-committed)
 
-    pub record Doom : Type 0 where
+    record Doom : Type 0 where
       pub log-none : log ≡ none
       pub begun : Begun t h
       pub no-committed : Any t Committed waiting sent → ⊥
@@ -424,7 +424,7 @@ module _ (t : Id) where
       no-aborted = no-aborted′ (q .no-aborted) (u .no-aborted);
     }
 
-    abbrev pub Shape′ : View → Type 0
+    abbrev Shape′ : View → Type 0
     Shape′ v = Shape t v log′ (x ∷ h) (issue image ms ++ waiting) sent (ms ++ issued)
 
     told-shape : {es es′ : List Enlistment} → ShapeCommitting t es log h waiting sent issued → log′ ≡ log → Calm x → (New t Aborted ms → ⊥)

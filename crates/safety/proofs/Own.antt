@@ -85,10 +85,10 @@ pub used-goes : (p s : ℕ) (f : Enlistment → Enlistment) (tb : Table) → goT
 unfolding changeHeld changeTransaction
 used-goes p s f tb = refl
 
-pub ends-for : (t : Id) (p : ℕ) (tb : Table) → Stands t p tb → (u : Id) → (u ≡ t → ⊥) → viewOf u (emptied p tb) ≡ viewOf u tb
+ends-for : (t : Id) (p : ℕ) (tb : Table) → Stands t p tb → (u : Id) → (u ≡ t → ⊥) → viewOf u (emptied p tb) ≡ viewOf u tb
 ends-for t p tb s u d = ends-other u p tb (named-other t u (transactionAt p tb) (s .here) d)
 
-pub unlogged-end : (p : ℕ) (tb : Table) (log : List ℕ) → (stateAt p tb ≡ transaction.committing → ⊥) → endOf p tb log ≡ quietly (emptied p tb) log
+unlogged-end : (p : ℕ) (tb : Table) (log : List ℕ) → (stateAt p tb ≡ transaction.committing → ⊥) → endOf p tb log ≡ quietly (emptied p tb) log
 unlogged-end p tb log n = closed-end p tb log (rw (ne-eqb (stateAt p tb) transaction.committing n) refl)
 
 -- ── what an event does to its own transaction ───────────────────────────────────────────────────────────────────
@@ -109,7 +109,7 @@ pub record Touched (t : Id) (p : ℕ) (tb tb₁ : Table) : Type 0 where
   pub managers-apart : Apart (λ x y. x .rm .0 ≡ y .rm .0) (filter isDurable (held p tb₁))
 
 module _ (tb : Table) (e : Event) (log : List ℕ) (t : Id) (p : ℕ) (tb₁ : Table) (z : Touched t p tb tb₁) (about : subjectOf tb e ≡ t) where
-  abbrev pub hs₁ : List Enlistment
+  abbrev hs₁ : List Enlistment
   hs₁ = held p tb₁
 
   abbrev Here : Outcome → Type 0

@@ -61,7 +61,7 @@ use Rattle.rules.proofs.Parts.{id-length}
 -- ── the state of the transaction, by that of its enlistment ─────────────────────────────────────────────────────
 
 module _ (s : ℕ) (x : Enlistment) where
-  pub of-active : Row s x → In enlistment.active x → (s ≡ transaction.active) ⊎ (s ≡ transaction.phaseZero)
+  of-active : Row s x → In enlistment.active x → (s ≡ transaction.active) ⊎ (s ≡ transaction.phaseZero)
   of-active (in-active q w) i = q
   of-active (in-zero q z w) i = absurd (omega arith)
   of-active (in-voting q w) i = absurd (by-either (λ y. omega arith) (λ y. by-either (λ v. omega arith) (λ v. omega arith) y) w)
@@ -69,7 +69,7 @@ module _ (s : ℕ) (x : Enlistment) where
   of-active (in-commit q w) i = absurd (by-either (λ y. omega arith) (λ y. by-either (λ v. omega arith) (λ v. omega arith) y) w)
   of-active (in-abort q w) i = absurd (by-either (λ y. omega arith) (λ y. omega arith) w)
 
-  pub of-zero : Row s x → In enlistment.zero x → (s ≡ transaction.phaseZero) × PhaseZero x
+  of-zero : Row s x → In enlistment.zero x → (s ≡ transaction.phaseZero) × PhaseZero x
   of-zero (in-active q w) i = absurd (omega arith)
   of-zero (in-zero q z w) i = (q, z)
   of-zero (in-voting q w) i = absurd (by-either (λ y. omega arith) (λ y. by-either (λ v. omega arith) (λ v. omega arith) y) w)
@@ -77,7 +77,7 @@ module _ (s : ℕ) (x : Enlistment) where
   of-zero (in-commit q w) i = absurd (by-either (λ y. omega arith) (λ y. by-either (λ v. omega arith) (λ v. omega arith) y) w)
   of-zero (in-abort q w) i = absurd (by-either (λ y. omega arith) (λ y. omega arith) w)
 
-  pub of-voting : Row s x → In enlistment.preparing x ⊎ In enlistment.prepared x → s ≡ transaction.phaseOne
+  of-voting : Row s x → In enlistment.preparing x ⊎ In enlistment.prepared x → s ≡ transaction.phaseOne
   of-voting (in-active q w) i = absurd (by-either (λ y. omega arith) (λ y. omega arith) i)
   of-voting (in-zero q z w) i = absurd (by-either (λ y. omega arith) (λ y. omega arith) i)
   of-voting (in-voting q w) i = q
@@ -88,7 +88,7 @@ module _ (s : ℕ) (x : Enlistment) where
   of-voting (in-abort q (inl w)) i = absurd (by-either (λ y. omega arith) (λ y. omega arith) i)
   of-voting (in-abort q (inr w)) i = absurd (by-either (λ y. omega arith) (λ y. omega arith) i)
 
-  pub of-single : Row s x → In enlistment.onePhase x → s ≡ transaction.singlePhase
+  of-single : Row s x → In enlistment.onePhase x → s ≡ transaction.singlePhase
   of-single (in-active q w) i = absurd (omega arith)
   of-single (in-zero q z w) i = absurd (omega arith)
   of-single (in-voting q w) i = absurd (by-either (λ y. omega arith) (λ y. by-either (λ v. omega arith) (λ v. omega arith) y) w)
@@ -107,7 +107,7 @@ module _ (s : ℕ) (x : Enlistment) where
   of-commit (in-abort q (inl w)) i = absurd (by-either (λ y. omega arith) (λ y. omega arith) i)
   of-commit (in-abort q (inr w)) i = absurd (by-either (λ y. omega arith) (λ y. omega arith) i)
 
-  pub of-abort : Row s x → In enlistment.toldAbort x → s ≡ transaction.aborting
+  of-abort : Row s x → In enlistment.toldAbort x → s ≡ transaction.aborting
   of-abort (in-active q w) i = absurd (omega arith)
   of-abort (in-zero q z w) i = absurd (omega arith)
   of-abort (in-voting q w) i = absurd (by-either (λ y. omega arith) (λ y. by-either (λ v. omega arith) (λ v. omega arith) y) w)
@@ -124,14 +124,14 @@ module _ (tb : Table) (s : Sound tb) (t : Id) (p : ℕ) (at : Stands t p tb) whe
   some-place : p ≡ 0 → ⊥
   some-place = not-zero (named-place t p tb (at .here))
 
-  pub held-sized : {x : Enlistment} → x ∈ held p tb → (length (x .rm .0) ≡ identifierSize) × (x .number ≤ largestNumber)
+  held-sized : {x : Enlistment} → x ∈ held p tb → (length (x .rm .0) ≡ identifierSize) × (x .number ≤ largestNumber)
   held-sized {x} m = (s .manager-identifiers x (of-held p tb m .0) (member-held p tb some-place m) .0, s .numbers x (of-held p tb m .0) (member-held p tb some-place m) .1)
 
   -- who is held votes, but for P
   pub held-votes : {x : Enlistment} → x ∈ held p tb → isPhaseZero x ≡ false → Votes (x .kind)
   held-votes {x} m n = by-either (λ q. absurd (eqb-false (x .kind) kind.phaseZero n q)) (λ q. q) (s .kinds x (of-held p tb m .0) (member-held p tb some-place m) .0)
 
-  pub own-id-size : length t ≡ identifierSize
+  own-id-size : length t ≡ identifierSize
   own-id-size = ap length (sym (named-is t (transactionAt p tb) (at .here) .1)) ∙ id-length p tb (sound-kept s) live
 
   numbers-apart : Apart (λ x y. x .number ≡ y .number) (held p tb)
@@ -161,7 +161,7 @@ module _ (tb : Table) (s : Sound tb) (t : Id) (p : ℕ) (at : Stands t p tb) whe
   }
 
   -- where it is open, there is room for its forget record
-  pub room-open : (log : List ℕ) → length log ≡ tb .capacity → stateAt p tb ≡ transaction.committing → Some Durable (held p tb) → tb .used + forgetSize ≤ length log
+  room-open : (log : List ℕ) → length log ≡ tb .capacity → stateAt p tb ≡ transaction.committing → Some Durable (held p tb) → tb .used + forgetSize ≤ length log
   unfolding openPlaces
   room-open log full state d = rw full (omega (arith, s .room, member-some (openPlaces tb) (in-places (λ q x. isOpen (x .state) (held q tb)) noTransaction (tb .transactions) (named-place t p tb (at .here)) is-open)))
     where
@@ -187,7 +187,7 @@ module _ (tb : Table) (log : List ℕ) (n : ℕ) (s : Sound tb) (full : length l
   abbrev pub p : ℕ
   p = numbered n tb .holder
 
-  abbrev pub me : Enlistment
+  abbrev me : Enlistment
   me = numbered n tb
 
   abbrev hs : List Enlistment
@@ -557,7 +557,7 @@ module _ (tb : Table) (log : List ℕ) (n : ℕ) (s : Sound tb) (full : length l
       soon : (eqb k enlistment.active || eqb k enlistment.zero || eqb k enlistment.preparing) ≡ true → Doomed t (viewOf t tb)
       soon q = by-either (λ w. by-either (λ v. early-doomed (inl (eqb-true k enlistment.active v))) (λ v. early-doomed (inr (eqb-true k enlistment.zero v))) (true-or (eqb k enlistment.active) (eqb k enlistment.zero) w)) (λ w. voting-doomed (inl (eqb-true k enlistment.preparing w))) (true-or (eqb k enlistment.active || eqb k enlistment.zero) (eqb k enlistment.preparing) q)
 
-  abbrev pub ReactsTo : Act → Type 0
+  abbrev ReactsTo : Act → Type 0
   ReactsTo a = Reacts a (reactionOf (me .kind) (me .state) a)
 
   pub reacts-zero-done : ReactsTo (act.ZeroDone n)

@@ -48,7 +48,7 @@ pub view-absent : (t : Id) (tb : Table) → Absent t tb → viewOf t tb ≡ out
 view-absent t tb a = view-in t 0 tb (absent-place t tb a) 0 (state-none tb)
 
 -- the same place, the same state and the same enlistments there
-pub view-same : (u : Id) (tb tb′ : Table) → placeNamed u tb′ ≡ placeNamed u tb
+view-same : (u : Id) (tb tb′ : Table) → placeNamed u tb′ ≡ placeNamed u tb
     → ((placeNamed u tb ≡ 0 → ⊥) → (stateAt (placeNamed u tb) tb′ ≡ stateAt (placeNamed u tb) tb) × (held (placeNamed u tb) tb′ ≡ held (placeNamed u tb) tb))
     → viewOf u tb′ ≡ viewOf u tb
 unfolding viewOf
@@ -67,7 +67,7 @@ view-only u p tb tb′ o b a = view-same u tb tb′ (same-place u tb tb′ (o .a
     elsewhere : (placeNamed u tb ≡ 0 → ⊥) → placeNamed u tb ≡ p → ⊥
     elsewhere n e = no-clash _ (ap (λ q. isNamed u (transactionAt q tb)) (sym e) ∙ named-found u tb n) b
 
-pub view-other : (u : Id) (p : ℕ) (f : Transaction → Transaction) (g : Enlistment → Enlistment) (tb : Table)
+view-other : (u : Id) (p : ℕ) (f : Transaction → Transaction) (g : Enlistment → Enlistment) (tb : Table)
     → Keeps g → isNamed u (transactionAt p tb) ≡ false → isNamed u (f (transactionAt p tb)) ≡ false
     → viewOf u (changeTransaction p f (changeHeld p g tb)) ≡ viewOf u tb
 unfolding changeHeld
@@ -115,7 +115,7 @@ module _ (t : Id) (p : ℕ) (tb : Table) (s : Stands t p tb) where
   unfolding changeHeld
   view-changes g = view-stands t p (changeHeld p g tb) (stands-held t p p g tb s)
 
-pub freed-keeps : Keeps freed
+freed-keeps : Keeps freed
 freed-keeps e = inr refl
 
 pub ends-other : (u : Id) (p : ℕ) (tb : Table) → isNamed u (transactionAt p tb) ≡ false → viewOf u (emptied p tb) ≡ viewOf u tb
