@@ -187,7 +187,7 @@ module _ (p s : ℕ) (f : Enlistment → Enlistment) (tb : Table) (k : Kept tb) 
 abbrev pub Abortable : Enlistment → Type 0
 Abortable e = ((0 < e .state) × (e .state ≤ enlistment.prepared)) ⊎ (In enlistment.preparedLost e ⊎ In enlistment.done e)
 
-aborts : Keeps abortedOf
+pub aborts : Keeps abortedOf
 unfolding abortedOf
 aborts e h = by-test (hearsAbort e)
     (λ t. rw t (moves h _ refl))

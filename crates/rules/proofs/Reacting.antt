@@ -115,7 +115,7 @@ may-abort (HoldsWell.aborting q h x) z = absurd (omega arith)
 
 -- ── one enlistment changes ──────────────────────────────────────────────────────────────────────────────────────
 
-on-number : (n : ℕ) {f : Enlistment → Enlistment} → Keeps f → Keeps (onNumber n f)
+pub on-number : (n : ℕ) {f : Enlistment → Enlistment} → Keeps f → Keeps (onNumber n f)
 on-number n keeps e h = by-test (isNumbered n e) (λ t. rw t (keeps e h)) (λ t. rw t (stays refl))
 
 -- the enlistment with number n, and the transaction that holds it

@@ -39,7 +39,7 @@ in-committing (HoldsWell.committing q n h x) z = (n, h, x)
 in-committing (HoldsWell.aborting q h x) z = absurd (omega arith)
 
 module _ (r : Id) where
-  told-keeps : Keeps (toldAgain r)
+  pub told-keeps : Keeps (toldAgain r)
   told-keeps e h = by-test (isUndone r e && isIn enlistment.failedToNotify e) (λ t. rw t (moves h _ refl)) (λ t. rw t (stays refl))
 
   pub told-key : (e : Enlistment) → SameKey e (toldAgain r e)
