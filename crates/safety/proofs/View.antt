@@ -111,7 +111,7 @@ module _ (t : Id) (p : ℕ) (tb : Table) (s : Stands t p tb) where
   view-changes g = view-stands t p (changeHeld p g tb) (stands-held t p p g tb s)
 
 -- only Committing looks so
-pub looks-committing : (k : ℕ) (hs es : List Enlistment) → look k hs ≡ committing es → (k ≡ transaction.committing) × (hs ≡ es)
+looks-committing : (k : ℕ) (hs es : List Enlistment) → look k hs ≡ committing es → (k ≡ transaction.committing) × (hs ≡ es)
 looks-committing zero hs es q = let z : _≡_ {A = ℕ} 0 1 = cc in absurd (omega arith)
 looks-committing (suc zero) hs es q = let z : _≡_ {A = ℕ} 0 1 = cc in absurd (omega arith)
 looks-committing (suc (suc zero)) hs es q = let z : _≡_ {A = ℕ} 0 1 = cc in absurd (omega arith)
@@ -120,3 +120,13 @@ looks-committing (suc (suc (suc (suc zero)))) hs es q = let z : _≡_ {A = ℕ} 
 looks-committing (suc (suc (suc (suc (suc zero))))) hs es q = (refl, cc)
 looks-committing (suc (suc (suc (suc (suc (suc zero)))))) hs es q = let z : _≡_ {A = ℕ} 0 1 = cc in absurd (omega arith)
 looks-committing (suc (suc (suc (suc (suc (suc (suc k))))))) hs es q = let z : _≡_ {A = ℕ} 0 1 = cc in absurd (omega arith)
+
+-- a view of Committing, of whose enlistments P holds
+pub record Shows (P : List Enlistment → Type 0) (v : View) : Type 0 where
+  pub es : List Enlistment
+  pub is : v ≡ committing es
+  pub holds : P es
+
+pub shows-committing : (P : List Enlistment → Type 0) (t : Id) (tb : Table) → Shows P (viewOf t tb) → (stateAt (placeNamed t tb) tb ≡ transaction.committing) × P (held (placeNamed t tb) tb)
+unfolding viewOf
+shows-committing P t tb w = let q = looks-committing (stateAt (placeNamed t tb) tb) (held (placeNamed t tb) tb) (w .es) (w .is) in (q .0, rw (q .1) (w .holds))
