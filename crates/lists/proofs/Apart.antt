@@ -1,7 +1,7 @@
 -- Lists in which no two are alike: so are their parts, what is sorted of them and what passes a test; and one that stands in another is no longer than it.
 use Prim.Native.Nat.{ℕ, suc, _≤_, _<_}
 use native.Mathlib.Omega.{arith}
-use mathlib.Core.Path.{_≡_, refl, subst, sym, _∙_, ap}
+use mathlib.Core.Path.{_≡_, refl, subst, sym, _∙_}
 use mathlib.Core.Bool.{Bool, true, false, not}
 use mathlib.Core.List.{List, [], _∷_, _++_, map, List·Memᴰ·head, List·Memᴰ·tail, List·Memᴰ·cases-cons, List·Memᴰ·append-cases, List·Memᴰ·not-nil, Memᴰ·append-left, Memᴰ·append-right}
 use lib.ListN.{length}
@@ -73,15 +73,6 @@ apart-narrower {R = R} f h i c (x ∷ xs) a = by-test (h x)
     (λ t. let b : Apart R (x ∷ filter f xs) = rw (i x t) at a in
     rw t (more (λ y m r. apart-head b y (in-filter f xs (of-filter h xs m .0) (i y (of-filter h xs m .1))) (c x y t (of-filter h xs m .1) r)) (apart-narrower f h i c xs (apart-rest b))))
     (λ t. rw t (apart-narrower f h i c xs (by-test (f x) (λ u. apart-rest {x = x} (rw u at a)) (λ u. rw u at a))))
-
-filter-map : {A B : Type 0} (h : B → Bool) (g : A → B) (xs : List A) → filter h (map g xs) ≡ map g (filter (λ x. h (g x)) xs)
-unfolding filter
-filter-map h g [] = refl
-filter-map h g (x ∷ xs) = by-test (h (g x)) (λ t. rw t (ap (λ l. g x ∷ l) (filter-map h g xs))) (λ t. rw t (filter-map h g xs))
-
-pub apart-changed : {A : Type 0} {R S : A → A → Type 0} (f h : A → Bool) (g : A → A) → ((x : A) → h (g x) ≡ true → f x ≡ true) → ((x y : A) → h (g x) ≡ true → h (g y) ≡ true → S (g x) (g y) → R x y)
-    → (xs : List A) → Apart R (filter f xs) → Apart S (filter h (map g xs))
-apart-changed {S = S} f h g i c xs a = rw (filter-map h g xs) (apart-map g (filter (λ x. h (g x)) xs) (apart-narrower f (λ x. h (g x)) i c xs a))
 
 module _ {A : Type 0} {R : A → A → Type 0} (before : A → A → Bool) (turn : (x y : A) → R x y → R y x) where
   apart-insert : (x : A) (ys : List A) → Each (λ y. R x y → ⊥) ys → Apart R ys → Apart R (insertBy before x ys)

@@ -1,10 +1,9 @@
 -- The loop that ends each transaction that is over: it is taken out of the memory, ended, and put back, and what is left to end gives the whole.
 -- Nobody holds more than before: an end empties what is its own, and leaves what others hold.
-use Prim.Native.Nat.{ℕ, suc, _+_, _*_, _≤_, _<_}
+use Prim.Native.Nat.{ℕ, _+_, _*_, _≤_, _<_}
 use native.Mathlib.Omega.{arith}
 use mathlib.Core.Path.{_≡_, refl, ap, sym, _∙_, subst}
 use mathlib.Core.Logic.{inr}
-use mathlib.Core.Bool.{Bool, true, false, cond, _&&_}
 use mathlib.Core.List.{List, [], _∷_, map}
 use lib.Dec.{eqb}
 use lib.ListN.{length, getD, take, drop, length-map}
@@ -16,12 +15,10 @@ use Rattle.lists.proofs.Tests.{by-test, each-drop, each-head, count-filter}
 use Rattle.lists.proofs.Places.{IsPlace, of-places}
 use Rattle.lists.proofs.Sorting.{of-sort}
 use Rattle.lists.proofs.Loops.{drop-at, drop-done}
-use Rattle.rules.specs.declared.Enlistment.{Enlistment}
 use Rattle.rules.specs.declared.Table.{Table}
 use Rattle.rules.specs.Identifiers.{Id}
 use Rattle.rules.specs.Sizes.{transactionPlaces, enlistmentPlaces, heldMost, signalsMost, largestCapacity}
-use Rattle.rules.specs.EnlistmentState as enlistment
-use Rattle.rules.specs.Table.{noTransaction, stateAt, heldBy, held, isDurableOf, isIn, inState, freed, withEnlistments, changeHeld, changeTransaction, useMore}
+use Rattle.rules.specs.Table.{noTransaction, stateAt, heldBy, held, freed, withEnlistments, changeHeld, changeTransaction, useMore}
 use Rattle.rules.specs.Log.{commitSize}
 use Rattle.rules.specs.Sound.{isOpen}
 use Rattle.rules.specs.Events.{quietly, append, endOf, doneFor, byIdentifier, finished, endEach, reenlistedOf}
@@ -41,6 +38,7 @@ use Rattle.orders.specs.Orders.{orderOf}
 use Rattle.orders.specs.Which.{isFinished}
 use Rattle.orders.proofs.Laws.{order-take}
 use Rattle.endings.specs.Gives.{Leaves, Ready}
+use Rattle.rules.proofs.Told.{held-done}
 use Rattle.reenlisting.specs.Ends.{Few, ReadyIn, LeavesIn}
 
 -- ── one end ─────────────────────────────────────────────────────────────────────────────────────────────────────
@@ -136,18 +134,8 @@ module _ {n : ℕ} {ps : List ℕ} {tb₀ : Table} {log₀ : List ℕ} {capacity
 abbrev doneTable : Id → Table → Table
 doneTable r tb = withEnlistments (map (doneFor r) (tb .enlistments)) tb
 
-done-count : (r : Id) (p : ℕ) (es : List Enlistment) → length (filter (heldBy p) (map (doneFor r) es)) ≡ length (filter (heldBy p) es)
-unfolding filter
-done-count r p [] = refl
-done-count r p (e ∷ es) = rw (ap (λ z. eqb z p) (same-holder (isDurableOf r e && isIn enlistment.failedToNotify e))) (by-test (heldBy p e) (λ t. rw t (ap suc (done-count r p es))) (λ t. rw t (done-count r p es)))
-  where
-    same-holder : (b : Bool) → cond b (inState enlistment.done e) e .holder ≡ e .holder
-    same-holder true = refl
-    same-holder false = refl
-
 done-few : (r : Id) (tb : Table) → Few tb → Few (doneTable r tb)
-unfolding held
-done-few r tb h p low = omega (arith, done-count r p (tb .enlistments), h p low)
+done-few r tb h p low = omega (arith, ap length (held-done r tb p) ∙ length-map (held p tb) (doneFor r), h p low)
 
 finished-placed : (tb : Table) → length (tb .transactions) ≡ transactionPlaces → Each Placed (finished tb)
 unfolding finished

@@ -20,7 +20,7 @@ pub data Along {A : Type 0} (S : A → A → Type 0) : List A → List A → Typ
 
 module _ {A : Type 0} {S : A → A → Type 0} where
   -- what stood there before
-  pub along-of : {xs ys : List A} {y : A} → Along S xs ys → y ∈ ys → Some (λ x. S x y) xs
+  along-of : {xs ys : List A} {y : A} → Along S xs ys → y ∈ ys → Some (λ x. S x y) xs
   along-of along-end m = absurd (List·Memᴰ·not-nil m)
   along-of (along-more {x = x} s r) m = by-either (λ e. some-here (subst (S x) (sym e) s)) (λ q. some-later (along-of r q)) (List·Memᴰ·cases-cons m)
 
@@ -32,7 +32,7 @@ module _ {A : Type 0} {S : A → A → Type 0} where
   along-map g [] h = along-end
   along-map g (x ∷ xs) h = along-more (each-head h) (along-map g xs (each-rest h))
 
-  pub along-same : (xs : List A) → ((x : A) → S x x) → Along S xs xs
+  along-same : (xs : List A) → ((x : A) → S x x) → Along S xs xs
   along-same [] h = along-end
   along-same (x ∷ xs) h = along-more (h x) (along-same xs h)
 
@@ -51,7 +51,7 @@ module _ {A : Type 0} {S : A → A → Type 0} where
 -- ── those that pass a test ──────────────────────────────────────────────────────────────────────────────────────
 
 module _ {A : Type 0} {S : A → A → Type 0} (t : A → Bool) (passed : (x y : A) → S x y → t y ≡ true → t x ≡ true) where
-  pub along-filter : {xs ys : List A} {y : A} → Along S xs ys → y ∈ filter t ys → Some (λ x. S x y) (filter t xs)
+  along-filter : {xs ys : List A} {y : A} → Along S xs ys → y ∈ filter t ys → Some (λ x. S x y) (filter t xs)
   along-filter {xs} {ys} {y} r m =
       let o = along-of r (of-filter t ys m .0) in
       record { it = o .it; there = in-filter t xs (o .there) (passed (o .it) y (o .holds) (of-filter t ys m .1)); holds = o .holds }

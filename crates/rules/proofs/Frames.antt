@@ -179,15 +179,6 @@ module _ (p : ℕ) (f : Transaction → Transaction) (tb : Table) where
   pub at-changed : {C : Type 0} → (transactionAt p (changeTransaction p f tb) ≡ f (transactionAt p tb) → C) → (transactionAt p (changeTransaction p f tb) ≡ noTransaction → C) → C
   at-changed g = by-place p (changeTransaction p f tb .transactions) (λ i. g (at-own (record { low = i .low; high = omega (arith, i .high, as-many) })))
 
-  -- of a name that stands at p neither before nor after
-  pub named-kept : (u : Id) → isNamed u (transactionAt p tb) ≡ false → isNamed u (f (transactionAt p tb)) ≡ false → (q : ℕ) → isNamed u (transactionAt q (changeTransaction p f tb)) ≡ isNamed u (transactionAt q tb)
-  named-kept u b a q = by-test (eqb q p)
-      (λ e. rw (eqb-true q p e) (at-changed (λ c. ap (isNamed u) c ∙ a ∙ sym b) (λ c. ap (isNamed u) c ∙ sym b)))
-      (λ e. ap (isNamed u) (at-other q (eqb-false q p e)))
-
-  pub place-kept : (u : Id) → isNamed u (transactionAt p tb) ≡ false → isNamed u (f (transactionAt p tb)) ≡ false → placeNamed u (changeTransaction p f tb) ≡ placeNamed u tb
-  place-kept u b a = same-place u tb (changeTransaction p f tb) as-many (named-kept u b a)
-
 -- ── a transaction goes to another state ─────────────────────────────────────────────────────────────────────────
 
 module _ (t : Id) (p s : ℕ) (tb : Table) (at : Stands t p tb) where
@@ -211,12 +202,6 @@ absent-ended t p tb alone = record {
       (λ e. rw (eqb-true q p e) (at-changed p ended tb (λ c. ap (isNamed t) c) (λ c. ap (isNamed t) c)))
       (λ e. is-false (isNamed t (transactionAt q (changeTransaction p ended tb))) (λ n. eqb-false q p e (alone q (ap (isNamed t) (sym (at-other p ended tb q (eqb-false q p e))) ∙ n))));
 }
-
--- what is unnamed at a place stays so, whoever ends
-pub unnamed-ended : (t : Id) (p q : ℕ) (tb : Table) → isNamed t (transactionAt q tb) ≡ false → isNamed t (transactionAt q (changeTransaction p ended tb)) ≡ false
-unnamed-ended t p q tb n = by-test (eqb q p)
-    (λ e. rw (eqb-true q p e) (at-changed p ended tb (λ c. ap (isNamed t) c) (λ c. ap (isNamed t) c)))
-    (λ e. ap (isNamed t) (at-other p ended tb q (eqb-false q p e)) ∙ n)
 
 -- ── the log ─────────────────────────────────────────────────────────────────────────────────────────────────────
 

@@ -44,7 +44,7 @@ zeros (b ∷ t) e = let (p, q) = true-and (eqb b 0) (isZero t) e in ap₂ _∷_ 
 pub zero-equal : (t : Id) → length t ≡ identifierSize → isZero t ≡ true → t ≡ zeroId
 zero-equal t l e = zeros t e ∙ rw l
 
-pub zero-is : isZero zeroId ≡ true
+zero-is : isZero zeroId ≡ true
 unfolding all
 zero-is = refl
 

@@ -58,7 +58,7 @@ keeps-state n s e = by-cond (λ (x : Enlistment). (x .holder ≡ e .holder) ⊎ 
 
 module _ {p : ℕ} {w : Table → Table} {Fits : Table → Type 0} (v : Through p w Fits) where
   -- as much room in the log
-  abbrev pub SameRoom : Table → Type 0
+  abbrev SameRoom : Table → Type 0
   SameRoom t = (n : ℕ) → lacksRoom n (w t) ≡ lacksRoom n t
 
   same-state : (t : Table) → Fits t → stateAt p (w t) ≡ stateAt p t
@@ -83,7 +83,7 @@ module _ {p : ℕ} {w : Table → Table} {Fits : Table → Type 0} (v : Through 
       rw (same-state t h, same-id t h, v .same-held t h, emptied-through t h)
       (choose w (isOpen (stateAt p t) (held p t)) (appended (Record.forget (idAt p t)) (emptied p t) log) refl)
 
-  pub end-if-done-through : (t : Table) (log : List ℕ) → Fits t → endIfDone p (w t) log ≡ through w (endIfDone p t log)
+  end-if-done-through : (t : Table) (log : List ℕ) → Fits t → endIfDone p (w t) log ≡ through w (endIfDone p t log)
   unfolding endIfDone
   end-if-done-through t log h = rw (v .same-held t h, end-through t log h) (choose w (all isDone (held p t)) refl refl)
 
@@ -100,7 +100,7 @@ module _ {p : ℕ} {w : Table → Table} {Fits : Table → Type 0} (v : Through 
   unfolding endCommitted
   end-committed-through t log h = said w _ (end-through t log h)
 
-  pub decide-through : (t : Table) (log : List ℕ) → Fits t → SameRoom t → decideOf p (w t) log ≡ through w (decideOf p t log)
+  decide-through : (t : Table) (log : List ℕ) → Fits t → SameRoom t → decideOf p (w t) log ≡ through w (decideOf p t log)
   unfolding decideOf
   decide-through t log h room =
       rw (v .same-held t h, same-id t h, room (length (filter isDurable (held p t))), gone-through transaction.committing committedOf t h)
@@ -109,7 +109,7 @@ module _ {p : ℕ} {w : Table → Table} {Fits : Table → Type 0} (v : Through 
       (choose w (lacksRoom (length (filter isDurable (held p t))) t) (abort-through t log h)
       (said w _ (appended _ (committing p t) log)))))
 
-  pub start-through : (t : Table) (log : List ℕ) → Fits t → startPhaseOne p (w t) log ≡ through w (startPhaseOne p t log)
+  start-through : (t : Table) (log : List ℕ) → Fits t → startPhaseOne p (w t) log ≡ through w (startPhaseOne p t log)
   unfolding startPhaseOne
   start-through t log h =
       rw (v .same-held t h, gone-through transaction.singlePhase (inState enlistment.onePhase) t h, gone-through transaction.phaseOne (inState enlistment.preparing) t h)
@@ -128,7 +128,7 @@ module _ {p : ℕ} {w : Table → Table} {Fits : Table → Type 0} (v : Through 
       rw (same-state t h, v .same-held t h, v .changed (toldAgain r) t h)
       (choose w (isOver (stateAt p t)) refl (choose w (eqb (stateAt p t) transaction.committing) refl refl))
 
-  pub follow-through : (f : FollowUp) (t : Table) (log : List ℕ) → Fits t → SameRoom t → follow f p (w t) log ≡ through w (follow f p t log)
+  follow-through : (f : FollowUp) (t : Table) (log : List ℕ) → Fits t → SameRoom t → follow f p (w t) log ≡ through w (follow f p t log)
   unfolding follow
   follow-through then.Nothing t log h room = refl
   follow-through then.StartPhaseOne t log h room = rw (v .same-held t h) (choose w (any isPhaseZero (held p t)) refl (start-through t log h))

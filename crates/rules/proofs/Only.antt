@@ -6,11 +6,11 @@ use mathlib.Core.Bool.{Bool, true, false, false≢true}
 use mathlib.Core.List.{List, [], _∷_, map}
 use lib.ListN.{length}
 use lib.Dec.{eqb}
-use borrow.Author.Tests.{eqb-true, eqb-false, eq-eqb, ne-eqb}
+use borrow.Author.Tests.{eqb-true, eqb-false, ne-eqb}
 use Rattle.lists.specs.Lists.{any, filter}
 use Rattle.lists.specs.Members.{Each, Some}
 use Rattle.lists.specs.Places.{putLowest}
-use Rattle.lists.proofs.Tests.{by-test, no-clash, is-true, true-and, and-true, none-each, each-none, each-head, each-rest, of-map, in-map}
+use Rattle.lists.proofs.Tests.{by-test, no-clash, is-true, true-and, and-true, none-each, each-none, each-head, each-rest}
 use Rattle.lists.proofs.Places.{IsPlace, at-below, length-change, length-put, filter-put}
 use Rattle.rules.specs.declared.Transaction.{Transaction}
 use Rattle.rules.specs.declared.Enlistment.{Enlistment}
@@ -19,7 +19,7 @@ use Rattle.rules.specs.Sizes.{recordSize}
 use Rattle.rules.specs.TransactionState as transaction
 use Rattle.rules.specs.Table.{noTransaction, isFree, isDurable, isVacant, heldBy, held, transactionAt, stateAt, freed, ended, onHeld, changeHeld, changeTransaction, emptied, useMore, withTransactions, withEnlistments}
 use Rattle.rules.specs.Sound.{isOpen, openPlaces, openCount, Live, Held}
-use Rattle.rules.proofs.Frames.{of-held, in-held, at-other}
+use Rattle.rules.proofs.Frames.{of-held, in-held, at-other, held-came, held-own}
 use Rattle.rules.proofs.Along.{many-but-one, oneIf}
 use Rattle.rules.proofs.Kept.{Kept, Keeping, stays, moves, goes, keeping-key, kept-map, kept-end, at-emptied, live-place, live-some}
 use Rattle.rules.proofs.Put.{freePlace, at-others, vacant-by}
@@ -132,24 +132,12 @@ used-transaction p f tb = refl
 module _ (p : ℕ) (f : Enlistment → Enlistment) (tb : Table) where
   -- each that is held afterwards is made of one that was held
   pub each-changed : (P : Enlistment → Type 0) → Each (λ e. f e .holder ≡ p → P (f e)) (held p tb) → Each P (held p (changeHeld p f tb))
-  unfolding changeHeld held
   each-changed P h x m =
-      let (i, t) = of-held p (changeHeld p f tb) m in
-      let o = of-map (onHeld p f) (tb .enlistments) i in
-      by-test (heldBy p (o .it))
-      (λ c. let q : f (o .it) ≡ x = rw c at (o .holds) in
-      subst P q (h (o .it) (in-held p tb (o .there) (eqb-true _ p c)) (ap (λ y. y .holder) q ∙ t)))
-      (λ c. let q : o .it ≡ x = rw c at (o .holds) in absurd (eqb-false _ p c (ap (λ y. y .holder) q ∙ t)))
+      let o = held-came p f tb m in
+      subst P (sym (o .holds)) (h (o .it) (o .there) (ap (λ y. y .holder) (sym (o .holds)) ∙ of-held p (changeHeld p f tb) m .1))
 
   pub some-changed : {P : Enlistment → Type 0} → Some (λ e. (f e .holder ≡ p) × P (f e)) (held p tb) → Some P (held p (changeHeld p f tb))
-  unfolding changeHeld held
-  some-changed s =
-      let (i, h) = of-held p tb (s .there) in
-      record {
-        it = f (s .it);
-        there = in-held p (changeHeld p f tb) (rw (eq-eqb (s .it .holder) p h) at (in-map (onHeld p f) i)) (s .holds .0);
-        holds = s .holds .1;
-      }
+  some-changed {P} s = held-own (λ e. (f e .holder ≡ p) × P (f e)) P p f tb (λ e m q. (q .1, q .0 ∙ sym (of-held p tb m .1))) s
 
 -- ── ending ──────────────────────────────────────────────────────────────────────────────────────────────────────
 

@@ -132,19 +132,19 @@ module _ (p s : ℕ) (f : Enlistment → Enlistment) (tb : Table) (k : Kept tb) 
   live-changed : Live (transactionAt p (changeHeld p f tb))
   live-changed = rw (at-changed p p f tb) l
 
-  pub only-moved : Only p tb (moved p s f tb)
+  only-moved : Only p tb (moved p s f tb)
   only-moved = only-then (only-held p f tb (live-some p tb l) keeps) (only-transaction p (inTransactionState s) (changeHeld p f tb))
 
-  pub kept-moved : (s ≡ 0 → ⊥) → Kept (moved p s f tb)
+  kept-moved : (s ≡ 0 → ⊥) → Kept (moved p s f tb)
   kept-moved n = kept-state p s n (kept-held p f tb (live-some p tb l) keeps k) live-changed
 
-  pub state-moved : stateAt p (moved p s f tb) ≡ s
+  state-moved : stateAt p (moved p s f tb) ≡ s
   state-moved = ap (λ x. x .state) (at-own p (inTransactionState s) (changeHeld p f tb) (live-place p (changeHeld p f tb) live-changed))
 
-  pub live-moved : (s ≡ 0 → ⊥) → Live (transactionAt p (moved p s f tb))
+  live-moved : (s ≡ 0 → ⊥) → Live (transactionAt p (moved p s f tb))
   live-moved n e = n (sym state-moved ∙ e)
 
-  pub held-moved : held p (moved p s f tb) ≡ held p (changeHeld p f tb)
+  held-moved : held p (moved p s f tb) ≡ held p (changeHeld p f tb)
   held-moved = held-transaction p p (inTransactionState s) (changeHeld p f tb)
 
   open-moved : openAt p (moved p s f tb) ≡ isOpen s (held p (changeHeld p f tb))
@@ -153,10 +153,10 @@ module _ (p s : ℕ) (f : Enlistment → Enlistment) (tb : Table) (k : Kept tb) 
   used-moved : moved p s f tb .used ≡ tb .used
   used-moved = used-transaction p (inTransactionState s) (changeHeld p f tb) ∙ used-held p f tb
 
-  pub well-moved : HoldsWell s (held p (changeHeld p f tb)) → HoldsWell (stateAt p (moved p s f tb)) (held p (moved p s f tb))
+  well-moved : HoldsWell s (held p (changeHeld p f tb)) → HoldsWell (stateAt p (moved p s f tb)) (held p (moved p s f tb))
   well-moved w = subst (λ z. HoldsWell z (held p (moved p s f tb))) (sym state-moved) (subst (HoldsWell s) (sym held-moved) w)
 
-  pub room-moved : isOpen s (held p (changeHeld p f tb)) ≡ false → Room tb → Room (moved p s f tb)
+  room-moved : isOpen s (held p (changeHeld p f tb)) ≡ false → Room tb → Room (moved p s f tb)
   room-moved c = room-kept p tb (moved p s f tb) only-moved (live-place p tb l) used-moved (λ t. no-clash _ t (open-moved ∙ c))
 
   -- without a record
@@ -187,7 +187,7 @@ module _ (p s : ℕ) (f : Enlistment → Enlistment) (tb : Table) (k : Kept tb) 
 abbrev pub Abortable : Enlistment → Type 0
 Abortable e = ((0 < e .state) × (e .state ≤ enlistment.prepared)) ⊎ (In enlistment.preparedLost e ⊎ In enlistment.done e)
 
-aborts : Keeps abortedOf
+pub aborts : Keeps abortedOf
 unfolding abortedOf
 aborts e h = by-test (hearsAbort e)
     (λ t. rw t (moves h _ refl))

@@ -68,7 +68,7 @@ module _ (p : ℕ) (tb : Table) (log : List ℕ) (k : Kept tb) (l : Live (transa
 
 -- ── Commit ──────────────────────────────────────────────────────────────────────────────────────────────────────
 
-zeroes : Keeps zeroedOf
+pub zeroes : Keeps zeroedOf
 zeroes e h = by-test (isPhaseZero e) (λ t. rw t (moves h _ refl)) (λ t. rw t (stays refl))
 
 -- how an enlistment stands in Phase Zero
@@ -101,7 +101,7 @@ module _ (p : ℕ) (tb : Table) (log : List ℕ) (k : Kept tb) (l : Live (transa
 
 -- ── Decide ──────────────────────────────────────────────────────────────────────────────────────────────────────
 
-commits : Keeps committedOf
+pub commits : Keeps committedOf
 unfolding committedOf
 commits e h = by-test (isIn enlistment.prepared e)
     (λ t. rw t (moves h _ refl))

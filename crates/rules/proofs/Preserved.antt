@@ -123,7 +123,7 @@ unfoldable pub tableAfter : List Event → Table → List ℕ → Table
 tableAfter [] tb log = tb
 tableAfter (e ∷ es) tb log = tableAfter es (stepOf tb e log .table) (stepOf tb e log .log)
 
-pub sound-after : (es : List Event) (tb : Table) (log : List ℕ) → Each Typed es → soundOf tb ≡ true → soundOf (tableAfter es tb log) ≡ true
+sound-after : (es : List Event) (tb : Table) (log : List ℕ) → Each Typed es → soundOf tb ≡ true → soundOf (tableAfter es tb log) ≡ true
 unfolding tableAfter
 sound-after [] tb log h t = t
 sound-after (e ∷ es) tb log h t = sound-after es (stepOf tb e log .table) (stepOf tb e log .log) (each-rest h) (sound-again tb e log (each-head h) t)

@@ -25,7 +25,7 @@ use Rattle.rules.proofs.Kept.{Kept, live-some, true-live, true-held}
 use Rattle.rules.proofs.Frames.{of-held}
 
 -- where no transaction is live, nothing is held
-pub held-nothing : (q : ℕ) (tb : Table) → Kept tb → (q ≡ 0 → ⊥) → transactionAt q tb .state ≡ 0 → held q tb ≡ []
+held-nothing : (q : ℕ) (tb : Table) → Kept tb → (q ≡ 0 → ⊥) → transactionAt q tb .state ≡ 0 → held q tb ≡ []
 unfolding held
 held-nothing q tb k n z = filter-none (heldBy q) (tb .enlistments) (λ e m. is-false (heldBy q e) (λ t.
     let h : e .holder ≡ q = eqb-true (e .holder) q t in

@@ -35,7 +35,7 @@ use Rattle.rules.proofs.Phases.{goes-to, Zeroing, start-part, Voted, Co
 -- ── which line of the table of states it is ─────────────────────────────────────────────────────────────────────
 
 -- how an enlistment stands in Phase One, and in Aborting
-abbrev pub Voting : Enlistment → Type 0
+abbrev Voting : Enlistment → Type 0
 Voting e = In enlistment.preparing e ⊎ Voted e
 
 abbrev pub Aborted : Enlistment → Type 0
@@ -50,7 +50,7 @@ voting-range e (inl h) = (omega arith, omega arith)
 voting-range e (inr (inl h)) = (omega arith, omega arith)
 voting-range e (inr (inr h)) = (omega arith, omega arith)
 
-pub committed-range : (e : Enlistment) → Committed e → (7 ≤ e .state) × (e .state ≡ 9 → ⊥)
+committed-range : (e : Enlistment) → Committed e → (7 ≤ e .state) × (e .state ≡ 9 → ⊥)
 committed-range e (inl h) = (omega arith, λ z. omega arith)
 committed-range e (inr (inl h)) = (omega arith, λ z. omega arith)
 committed-range e (inr (inr h)) = (omega arith, λ z. omega arith)

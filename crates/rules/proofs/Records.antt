@@ -110,11 +110,11 @@ module _ {r : Record} (v : Valid r) (rest : List ℕ) where
   whole : isWhole (f .first) (f .second) (f .body ++ rest) ≡ true
   whole = rw (f .size, length-append (f .body) rest) (and-true (lt-ltb 0 (2 + length (f .body)) (omega arith)) (le-leb (2 + length (f .body)) (2 + (length (f .body) + length rest)) (omega arith)))
 
-  pub scan-one : scan 0 (recordBytes r ++ rest) ≡ r ∷ scan 0 rest
+  scan-one : scan 0 (recordBytes r ++ rest) ≡ r ∷ scan 0 rest
   unfolding scan
   scan-one = rw (f .bytes, whole, f .size, take-at (f .body) rest (2 + length (f .body) - 2) (omega arith), f .read, skip-scan (f .body) rest (2 + length (f .body) - 2) (omega arith))
 
-  pub behind-one : behind 0 (recordBytes r ++ rest) ≡ behind 0 rest
+  behind-one : behind 0 (recordBytes r ++ rest) ≡ behind 0 rest
   unfolding behind
   behind-one = rw (f .bytes, whole, f .size, skip-behind (f .body) rest (2 + length (f .body) - 2) (omega arith))
 

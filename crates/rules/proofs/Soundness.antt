@@ -89,7 +89,7 @@ module _ (hs : List Enlistment) where
       (says-all (λ e. says-either (says-in enlistment.toldAbort e) (says-in enlistment.done e)) hs)
       (says-any (says-in enlistment.toldAbort) hs)
 
-pub well-holds : (s : ℕ) (hs : List Enlistment) → HoldsWell s hs → holdsWell s hs ≡ true
+well-holds : (s : ℕ) (hs : List Enlistment) → HoldsWell s hs → holdsWell s hs ≡ true
 well-holds s hs (HoldsWell.active e h) = rw e (line-active hs .back (h, tt))
 well-holds s hs (HoldsWell.phase-zero e h o) = rw e (line-phase-zero hs .back (h, o))
 well-holds s hs (HoldsWell.phase-one e n h o) = rw e (line-phase-one hs .back (λ x m. (n x m, h x m), o))
@@ -97,7 +97,7 @@ well-holds s hs (HoldsWell.single-phase e l h) = rw e (line-single-phase hs .bac
 well-holds s hs (HoldsWell.committing e n h o) = rw e (line-committing hs .back (λ x m. (n x m, h x m), o))
 well-holds s hs (HoldsWell.aborting e h o) = rw e (line-aborting hs .back (h, o))
 
-pub holds-well : (s : ℕ) (hs : List Enlistment) → holdsWell s hs ≡ true → HoldsWell s hs
+holds-well : (s : ℕ) (hs : List Enlistment) → holdsWell s hs ≡ true → HoldsWell s hs
 unfolding mustHold
 holds-well s hs h = by-test (eqb s transaction.active)
     (λ e. let q = eqb-true s transaction.active e in let l = line-active hs .out (rw q at h) in HoldsWell.active q (l .0))

@@ -39,7 +39,7 @@ in-committing (HoldsWell.committing q n h x) z = (n, h, x)
 in-committing (HoldsWell.aborting q h x) z = absurd (omega arith)
 
 module _ (r : Id) where
-  told-keeps : Keeps (toldAgain r)
+  pub told-keeps : Keeps (toldAgain r)
   told-keeps e h = by-test (isUndone r e && isIn enlistment.failedToNotify e) (λ t. rw t (moves h _ refl)) (λ t. rw t (stays refl))
 
   pub told-key : (e : Enlistment) → SameKey e (toldAgain r e)
@@ -120,7 +120,7 @@ module _ (r : Id) (tb : Table) where
   done-committed : (e : Enlistment) → Committed e → Committed (doneFor r e)
   done-committed e c = by-test (isDurableOf r e && isIn enlistment.failedToNotify e) (λ t. rw t (inr (inr refl))) (λ t. rw t c)
 
-  pub not-durable : (e : Enlistment) → isDurableOf r e ≡ false → doneFor r e ≡ e
+  not-durable : (e : Enlistment) → isDurableOf r e ≡ false → doneFor r e ≡ e
   not-durable e t = rw t
 
   not-failed : (e : Enlistment) → (In enlistment.failedToNotify e → ⊥) → doneFor r e ≡ e

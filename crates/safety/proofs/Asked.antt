@@ -60,7 +60,7 @@ module _ (tb : Table) (s : Sound tb) (e : Event) (is-ask : e .act ≡ act.Ask) (
         (false-not (ne-eqb (m .waits .it .state) enlistment.done (waits-undone (m .waits .it) (m .waits .holds))));
   })
 
-  pub ask-not-refused : (n : ℕ) → n ≡ tb .capacity → refusalOf tb e n ≡ refusal.accepted
+  ask-not-refused : (n : ℕ) → n ≡ tb .capacity → refusalOf tb e n ≡ refusal.accepted
   unfolding firstOf
   ask-not-refused n full = refusal-checks tb e n act.Ask is-ask ∙ rw (sentences-sound tb s, eq-eqb n (tb .capacity) full, transaction-nonzero, manager-nonzero, m .state, has-durable) refl
 

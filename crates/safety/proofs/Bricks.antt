@@ -37,7 +37,7 @@ use Rattle.safety.proofs.Top.{Alive, Always, always, agrees}
 use Rattle.safety.proofs.Story.{storyOf, Formed, story-formed, nothing-mine, tells}
 use Rattle.safety.proofs.View.{viewOf}
 use Rattle.safety.proofs.Open.{Fit, fit-nothing, fit-record, fit-all, open-both, fitting-both}
-use Rattle.safety.proofs.Fitting.{Ready}
+use Rattle.safety.proofs.Fitting.{Ready, AllPlaces}
 use Rattle.safety.proofs.Reopened.{reopened-sound}
 use Rattle.safety.proofs.Steps.{Written, step-writes, step-refuses, step-needs-sound, zero-unsound}
 use Rattle.safety.proofs.Lengths.{Same, step-same}
@@ -77,8 +77,7 @@ pub record Readable (tb : Table) (log : List ℕ) : Type 0 where
   pub formed : Formed (usedPart tb log)
   pub fitting : allFitting [] (formed .records) ≡ true
   pub room : tb .used + recordSize * length (openAfter [] (formed .records)) ≤ length log
-  pub transactions-many : length (tb .transactions) ≡ transactionPlaces
-  pub enlistments-many : length (tb .enlistments) ≡ enlistmentPlaces
+  pub places : AllPlaces tb
   pub capacity : tb .capacity ≡ length log
   pub least : leastCapacity ≤ length log
   pub most : length log ≤ largestCapacity
@@ -97,8 +96,7 @@ ready w a g s = record {
   agrees = λ u. agrees refines u (viewOf u (w .table)) (storyOf u (usedPart (w .table) (w .log))) (w .notes) (w .waiting) (w .sent) (w .issued) (a .shape u);
   fine = λ u. a .base u .fine;
   fit = fit-all [] (g .formed .records) fit-nothing (g .formed .valid) (g .fitting);
-  transactions-many = g .transactions-many;
-  enlistments-many = g .enlistments-many;
+  places = g .places;
   room = g .room;
 }
 
@@ -112,8 +110,7 @@ readable-more tb log e g w r = record {
   };
   fitting = fitting-both [] (g .formed .records) (w .records) ∙ and-true (g .fitting) (j .0);
   room = rw (open-both [] (g .formed .records) (w .records), k .bytes) (j .1);
-  transactions-many = k .transactions ∙ g .transactions-many;
-  enlistments-many = k .enlistments ∙ g .enlistments-many;
+  places = record { transactions-many = k .transactions ∙ g .places .transactions-many; enlistments-many = k .enlistments ∙ g .places .enlistments-many };
   capacity = k .capacity ∙ g .capacity ∙ sym (k .bytes);
   least = rw (k .bytes) (g .least);
   most = rw (k .bytes) (g .most);
@@ -152,8 +149,7 @@ fresh-readable log l m = record {
   formed = record { records = []; valid = each-nothing Valid; bytes = refl };
   fitting = refl;
   room = omega (arith, size);
-  transactions-many = refl;
-  enlistments-many = refl;
+  places = record { transactions-many = refl; enlistments-many = refl };
   capacity = sym size;
   least = omega (arith, size);
   most = omega (arith, size);
@@ -196,8 +192,10 @@ module _ (disk spare rest : List ℕ) (f : Formed (disk ++ rest)) (h : headerSiz
     formed = record { records = rs; valid = restarts.ok disk spare rest f h; bytes = ap (λ n. take n (disk ++ spare)) (table-used (length (disk ++ spare)) (usedOf body) os .0) ∙ restarts.used-part disk spare rest f h };
     fitting = fitting;
     room = rw (table-used (length (disk ++ spare)) (usedOf body) os .0) (roomy t);
-    transactions-many = many-transactions os (fit fitting .few) (length (disk ++ spare)) (usedOf body);
-    enlistments-many = many-enlistments os (fit fitting .few-entries) (length (disk ++ spare)) (usedOf body);
+    places = record {
+      transactions-many = many-transactions os (fit fitting .few) (length (disk ++ spare)) (usedOf body);
+      enlistments-many = many-enlistments os (fit fitting .few-entries) (length (disk ++ spare)) (usedOf body);
+    };
     capacity = table-used (length (disk ++ spare)) (usedOf body) os .1;
     least = l;
     most = m;

@@ -34,7 +34,7 @@ use Rattle.rules.specs.Sound.{Sound, Durable}
 use Rattle.rules.specs.Signals.{signal, toEach, Committed}
 use Rattle.rules.specs.Events.{quietly, saying, abortOf, beginOf, kindOf, zeroAtOnce, newEnlistment, enlistOf, zeroedOf, commitOf, isUndone, isOver, toldAgain, askOf}
 use Rattle.rules.proofs.Identifiers.{same-refl}
-use Rattle.rules.proofs.Frames.{Keeps, of-held, in-held, held-came, held-own, named-is, named-other, named-found, none-absent, not-zero, Stands, Absent, at-own, at-other}
+use Rattle.rules.proofs.Frames.{of-held, in-held, held-came, held-own, named-is, named-other, named-found, none-absent, not-zero, Stands, Absent, at-own, at-other}
 use Rattle.safety.specs.World.{Note, told, messageOf}
 use Rattle.safety.specs.Host.{Prepares, MayAsk}
 use Rattle.safety.specs.Demand3.{Votes}
@@ -42,13 +42,13 @@ use Rattle.safety.proofs.Alone as alone
 use Rattle.safety.proofs.Alone.{Story, early, Waits, Is, Unasked}
 use Rattle.safety.proofs.Move.{nothing-calm, Joins, from-early, from-aborting, to-aborting, Move, stay, begin, gather, abort, told-on, answer-out}
 use Rattle.safety.proofs.Top.{Agrees}
-use Rattle.safety.proofs.View.{viewOf, look, view-in, view-stands, view-absent, view-goes, goes-other, view-changes, view-held-other, state-none, view-only}
+use Rattle.safety.proofs.View.{viewOf, look, view-in, view-stands, view-absent, view-goes, goes-other, view-changes, state-none, view-only, held-other}
 use Rattle.safety.proofs.Given.{stands-sound, owner-held}
 use Rattle.safety.proofs.Messages.{notCommitted, notAborted, Only, only-nothing, only-one, only-each, Addressed, Owned, addressed-nothing, addressed-one, addressed-neutral, none-committed, none-aborted, quiet}
 use Rattle.safety.proofs.Own.{Own, unwritten, unlogged, used-goes, own-abort, own-start}
 use Rattle.safety.proofs.Reactions.{held-votes, untouched}
-use Rattle.rules.proofs.Told.{told-key}
-use Rattle.rules.proofs.Phases.{zeroed-key}
+use Rattle.rules.proofs.Told.{told-key, told-keeps}
+use Rattle.rules.proofs.Phases.{zeroed-key, zeroes}
 use Rattle.rules.proofs.Kept.{SameKey}
 use Rattle.rules.proofs.Only.{only-transaction, only-enlist}
 
@@ -144,13 +144,10 @@ module _ (tb : Table) (log : List ℕ) (s : Sound tb) (x : TxId) (y : RmId) wher
         k : SameKey (c .it) (zeroedOf (c .it))
         k = zeroed-key (c .it)
 
-    zeroed-keeps : Keeps zeroedOf
-    zeroed-keeps e = inl (zeroed-key e .holder)
-
     pub own-commit : stateAt p tb ≡ transaction.active → Own tb (event act.Commit) log t (commitOf p tb log)
     unfolding commitOf told
     own-commit state = by-cases (Own tb this-event log t) (any isPhaseZero hs) _ _
-        (λ _. unlogged tb this-event log t p tb (untouched tb s t p at-p) refl tb₂ ss (addressed-neutral tb this-event ss (only-each notCommitted name.Zero phase-zeros refl) (only-each notAborted name.Zero phase-zeros refl)) (used-goes p transaction.phaseZero zeroedOf tb) (λ u d. goes-other t p tb at-p transaction.phaseZero zeroedOf u zeroed-keeps d)
+        (λ _. unlogged tb this-event log t p tb (untouched tb s t p at-p) refl tb₂ ss (addressed-neutral tb this-event ss (only-each notCommitted name.Zero phase-zeros refl) (only-each notAborted name.Zero phase-zeros refl)) (used-goes p transaction.phaseZero zeroedOf tb) (λ u d. goes-other t p tb at-p transaction.phaseZero zeroedOf u zeroes d)
         (λ h made l a. rw (view-in t p tb refl transaction.active state, view-goes t p tb at-p transaction.phaseZero zeroedOf (λ q. omega arith))
         (gather refl (nothing-calm t .not-prepared) (quiet t tb this-event ss (only-each notCommitted name.Zero phase-zeros refl) (only-each notAborted name.Zero phase-zeros refl))
         (λ m r k w. held-own (Unasked m r k) (Unasked m r k) p zeroedOf tb (λ e _ q. zeroed-kept (Unasked m r k) (λ e q. q) e q) w)
@@ -288,7 +285,7 @@ module _ (tb : Table) (log : List ℕ) (s : Sound tb) (x : TxId) (y : RmId) wher
   ask-committing : stateAt p tb ≡ transaction.committing → (p ≡ 0 → ⊥) → Own tb ask log t (saying (signal name.AnswerCommitted answered ∷ []) (quietly (changeHeld p (toldAgain r) tb) log))
   unfolding told
   ask-committing state live = unlogged tb ask log t p tb (untouched tb s t p (at-p live)) refl (changeHeld p (toldAgain r) tb) (signal name.AnswerCommitted answered ∷ []) (addressed-one tb ask name.AnswerCommitted answered (answered-owned live)) same-used
-      (λ u d. view-held-other u p (toldAgain r) tb (λ e. inl (told-key r e .holder)) (named-other t u (transactionAt p tb) (at-p live .here) d))
+      (λ u d. held-other t p tb (at-p live) (toldAgain r) u (told-keeps r) d)
       (λ h made l a. rw (view-in t p tb refl transaction.committing state, view-changes t p tb (at-p live) (toldAgain r) ∙ ap (λ k. look k (held p (changeHeld p (toldAgain r) tb))) state)
       (told-on refl (nothing-calm t) (none-aborted t tb ask (signal name.AnswerCommitted answered ∷ []) (only-one notAborted name.AnswerCommitted answered refl))
       (λ q w. inl (held-own (Waits q) (Waits q) p (toldAgain r) tb (λ e _ v. (again-waits q e v, told-key r e .holder)) w))

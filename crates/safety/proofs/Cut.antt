@@ -2,7 +2,7 @@
 -- restart goes back to what the stored log tells, in which whatever was said of the transaction stands.
 use Prim.Native.Nat.{ℕ}
 use mathlib.Core.Path.{_≡_, refl}
-use mathlib.Core.Logic.{_⊎_, inl, inr, ⊎-elim}
+use mathlib.Core.Logic.{_⊎_, inl, inr}
 use mathlib.Core.List.{List, [], _∷_, List·Memᴰ·cases-cons, List·Memᴰ·not-nil}
 use Rattle.lists.specs.Members.{_∈_, Some}
 use Rattle.rules.specs.declared.Enlistment.{Enlistment}
@@ -13,6 +13,7 @@ use Rattle.safety.specs.World.{Note, Message, Issued}
 use Rattle.safety.specs.Host.{MayAsk}
 use Rattle.rules.specs.Signals.{Committed, Aborted}
 use Rattle.safety.proofs.Alone.{Story, none, open-with, closed, bad, Below, below-refl, Logged, logged-up, fine-down, none-not-open, closed-not-open, View, out, early, voting, single, committing, aborting, Waits, managersOf, Entered, NoAsk, AsksIn, Any, Base, Undecided, Shape}
+use Rattle.lists.proofs.Tests.{by-either}
 
 -- What a restart makes of a story
 abbrev pub Restored : Story → View → Type 0
@@ -40,7 +41,7 @@ module _ (t : Id) (storyOf : List ℕ → Story) (log disk : Story) (h : List No
     kept = b .kept;
     asks = b .asks;
     waits = b .waits;
-    leaves = λ i m a c. ⊎-elim inl (λ g. inr (logged-up disk disk′ p g)) (b .leaves i m a c);
+    leaves = λ i m a c. by-either inl (λ g. inr (logged-up disk disk′ p g)) (b .leaves i m a c);
   }
 
   -- what has left was waiting
@@ -67,8 +68,8 @@ module _ (t : Id) (storyOf : List ℕ → Story) (log disk : Story) (h : List No
     kept = λ g a. b .kept g (left Aborted i m a);
     asks = b .asks;
     waits = b .waits;
-    leaves = λ j q a c. ⊎-elim
-        (λ e. ⊎-elim inl (λ g. inr (logged-up (storyOf (i .image)) disk p g)) (b .waits i m (rw e at a) (rw e at c)))
+    leaves = λ j q a c. by-either
+        (λ e. by-either inl (λ g. inr (logged-up (storyOf (i .image)) disk p g)) (b .waits i m (rw e at a) (rw e at c)))
         (λ q′. b .leaves j q′ a c) (List·Memᴰ·cases-cons q);
   }
 
@@ -139,7 +140,7 @@ module _ (t : Id) (storyOf : List ℕ → Story) (log disk : Story) (h : List No
       sent-committed (inr s) = b .leaves (s .it) (s .there) (s .holds .0) (s .holds .1)
 
       go : (d : Story) → disk ≡ d → Restored d v → Shape t v disk h [] sent issued
-      go none e r = rw r (record { not-open = none-not-open e; no-ask = λ c. ⊎-elim (λ y. y) (λ g. absurd (rw e at g)) (sent-committed c) })
+      go none e r = rw r (record { not-open = none-not-open e; no-ask = λ c. by-either (λ y. y) (λ g. absurd (rw e at g)) (sent-committed c) })
       go (open-with rs) e (es, shown, w, d, n) = rw shown (record {
         begun = b .begun-log (logged-up disk log (b .below) (rw e tt));
         no-aborted = λ a. b .kept (logged-up disk log (b .below) (rw e tt)) (only-sent Aborted a);

@@ -33,13 +33,17 @@ use Rattle.safety.specs.World.{ownerOf}
 use Rattle.safety.proofs.Alone.{Story, none, open-with, closed, bad, View, out, early, voting, single, committing, aborting, NoDurable, Entered, durable-any}
 use Rattle.safety.proofs.Top.{Agrees}
 use Rattle.safety.proofs.Story.{mine, Tells}
-use Rattle.safety.proofs.View.{viewOf, looks-committing, state-none}
+use Rattle.safety.proofs.View.{viewOf, state-none, Shows, shows-committing}
 use Rattle.safety.proofs.Given.{stands-sound, owner-held}
 use Rattle.safety.proofs.Open.{Fit, FitCommit, of-entries}
 use Rattle.rules.proofs.Kept.{true-live}
 use Rattle.rules.proofs.Put.{member-held}
 
 -- ── what is ready for a record ──────────────────────────────────────────────────────────────────────────────────
+
+pub record AllPlaces (tb : Table) : Type 0 where
+  pub transactions-many : length (tb .transactions) ≡ transactionPlaces
+  pub enlistments-many : length (tb .enlistments) ≡ enlistmentPlaces
 
 -- a sound table, and the open transactions that its log tells
 pub record Ready (tb : Table) (log : List ℕ) (os : List Open) : Type 0 where
@@ -49,8 +53,7 @@ pub record Ready (tb : Table) (log : List ℕ) (os : List Open) : Type 0 where
   pub agrees : (u : Id) → Agrees (viewOf u tb) (storied u)
   pub fine : (u : Id) → storied u ≡ bad → ⊥
   pub fit : Fit os
-  pub transactions-many : length (tb .transactions) ≡ transactionPlaces
-  pub enlistments-many : length (tb .enlistments) ≡ enlistmentPlaces
+  pub places : AllPlaces tb
   pub room : tb .used + recordSize * length os ≤ length log
 
 -- the records fit, and there is room for the forget records of those that are open then
@@ -85,18 +88,15 @@ told-open tb log os r t es shows durable = go (r .storied t) (rw shows at (r .ag
     go s (inr (q, y)) h = absurd (durable y)
 
 -- a story that is open is that of a transaction in Committing
-pub record Shown (rs : List Entry) (v : View) : Type 0 where
-  pub es : List Enlistment
-  pub is : v ≡ committing es
-  pub durable : Some Durable es
-  pub entered : Entered rs es
+abbrev pub Shown : List Entry → View → Type 0
+Shown rs v = Shows (λ es. Some Durable es × Entered rs es) v
 
 shown : (rs : List Entry) (v : View) (s : Story) → s ≡ open-with rs → Agrees v s → Shown rs v
 shown rs out s e a = absurd (a rs e)
 shown rs (early es) s e a = let z : _≡_ {A = ℕ} 0 1 = cc in absurd (omega arith)
 shown rs (voting es) s e a = let z : _≡_ {A = ℕ} 0 1 = cc in absurd (omega arith)
 shown rs (single es) s e a = let z : _≡_ {A = ℕ} 0 1 = cc in absurd (omega arith)
-shown rs (committing es) s e (inl (qs, q, d, n)) = record { es = es; is = refl; durable = d; entered = rw (same qs q) at n }
+shown rs (committing es) s e (inl (qs, q, d, n)) = record { es = es; is = refl; holds = (d, rw (same qs q) at n) }
   where
     same : (qs : List Entry) → s ≡ open-with qs → qs ≡ rs
     same qs q = cc
@@ -104,10 +104,7 @@ shown rs (committing es) s e (inr (q, n)) = let z : _≡_ {A = ℕ} 0 1 = cc in 
 shown rs aborting s e a = let z : _≡_ {A = ℕ} 0 1 = cc in absurd (omega arith)
 
 pub open-shown : (o : Open) (T : Table) → Shown (o .entries) (viewOf (o .id) T) → OpenAt o T
-unfolding viewOf
-open-shown o T w =
-    let q : (stateAt (placeNamed (o .id) T) T ≡ transaction.committing) × (held (placeNamed (o .id) T) T ≡ w .es) = looks-committing (stateAt (placeNamed (o .id) T) T) (held (placeNamed (o .id) T) T) (w .es) (w .is) in
-    record { state = q .0; durable = rw (q .1) (w .durable); entered = rw (q .1) (w .entered) }
+open-shown o T w = let (q, (d, e)) = shows-committing (λ es. Some Durable es × Entered (o .entries) es) (o .id) T w in record { state = q; durable = d; entered = e }
 
 module _ (tb : Table) (log : List ℕ) (os : List Open) (r : Ready tb log os) where
   -- of an open transaction the log tells its record
@@ -128,7 +125,7 @@ module _ (tb : Table) (log : List ℕ) (os : List Open) (r : Ready tb log os) wh
   pub shown-open : (o : Open) → o ∈ os → Shown (o .entries) (viewOf (o .id) tb)
   shown-open o m = shown (o .entries) (viewOf (o .id) tb) (r .storied (o .id)) (story-open o m) (r .agrees (o .id))
 
-  pub open-at : (o : Open) → o ∈ os → OpenAt o tb
+  open-at : (o : Open) → o ∈ os → OpenAt o tb
   open-at o m = open-shown o tb (shown-open o m)
 
 -- ── each open one at a place of its own ─────────────────────────────────────────────────────────────────────────
@@ -161,7 +158,7 @@ module _ (T : Table) where
       go p s = rw (← s .holds) (in-places (λ q x. isOpen (x .state) (held q T)) noTransaction (T .transactions) (named-place (s .it .id) (placeNamed (s .it .id) T) T (placed (s .it) (h (s .it) (s .there)))) (is-open (s .it) (h (s .it) (s .there))))
 
   -- and one more that is live, and not in Committing
-  pub open-and-one : (t : Id) (p : ℕ) (os : List Open) → isNamed t (transactionAt p T) ≡ true → (stateAt p T ≡ transaction.committing → ⊥) → Apart (λ o q. o .id ≡ q .id) os → Each (λ o. OpenAt o T) os → length os + 1 ≤ length (T .transactions)
+  open-and-one : (t : Id) (p : ℕ) (os : List Open) → isNamed t (transactionAt p T) ≡ true → (stateAt p T ≡ transaction.committing → ⊥) → Apart (λ o q. o .id ≡ q .id) os → Each (λ o. OpenAt o T) os → length os + 1 ≤ length (T .transactions)
   open-and-one t p os l n a h = omega (arith, most, length-map os (λ o. placeNamed (o .id) T), no-more (p ∷ placesOf os) live (more (λ q m e. other q (of-map (λ o. placeNamed (o .id) T) os m) e) (places-apart os a h)) in-live)
     where
       live : List ℕ
@@ -252,8 +249,8 @@ module _ (tb : Table) (log : List ℕ) (os : List Open) (r : Ready tb log os) (t
     ascending = ascends 0 ds sorted numbers (λ x m. let z : x .number ≡ 0 → ⊥ = own-number m .0 in omega (arith, z));
     numbers-new = each-none (λ e. any (λ d. eqb (d .number) (e .number)) (entriesOpen os)) (map entryOf ds) (λ e m. each-none (λ d. eqb (d .number) (e .number)) (entriesOpen os) (λ d i. fresh e d (of-map entryOf ds m) i));
     managers-differ = apart-differ sameEntryManager (λ x y e. sym (same-equal (y .rm) (x .rm) e)) (map entryOf ds) (apart-map entryOf ds managers);
-    few = rw (r .transactions-many) at (open-and-one tb t p os (at .here) undecided (r .fit .ids-apart) (λ o m. open-at tb log os r o m));
-    few-entries = omega (arith, no-more all-numbers (map (λ (x : Enlistment). x .number) (tb .enlistments)) numbers-all-apart numbers-held, length-append (map (λ (d : Entry). d .number) (entriesOpen os)) (map (λ (x : Enlistment). x .number) ds), length-map (entriesOpen os) (λ (d : Entry). d .number), length-map ds (λ (x : Enlistment). x .number), length-map (tb .enlistments) (λ (x : Enlistment). x .number), r .enlistments-many, length-map ds entryOf);
+    few = rw (r .places .transactions-many) at (open-and-one tb t p os (at .here) undecided (r .fit .ids-apart) (λ o m. open-at tb log os r o m));
+    few-entries = omega (arith, no-more all-numbers (map (λ (x : Enlistment). x .number) (tb .enlistments)) numbers-all-apart numbers-held, length-append (map (λ (d : Entry). d .number) (entriesOpen os)) (map (λ (x : Enlistment). x .number) ds), length-map (entriesOpen os) (λ (d : Entry). d .number), length-map ds (λ (x : Enlistment). x .number), length-map (tb .enlistments) (λ (x : Enlistment). x .number), r .places .enlistments-many, length-map ds entryOf);
   }
     where
       manager : (e : Entry) → Some (λ x. entryOf x ≡ e) ds → isZero (e .rm) ≡ false

@@ -1,31 +1,57 @@
 -- What an accepted step may take for granted of the table that it is given: it is sound, so that names stand at one place, a number is
 -- one enlistment's, and the state of an enlistment tells that of its transaction.
-use Prim.Native.Nat.{ℕ}
+use Prim.Native.Nat.{ℕ, _≤_}
 use mathlib.Core.Path.{_≡_, refl, sym, _∙_, ap}
 use mathlib.Core.Logic.{_⊎_, inl, inr}
-use mathlib.Core.Bool.{true}
+use mathlib.Core.Bool.{true, _&&_}
 use mathlib.Core.List.{List}
-use borrow.Author.Tests.{eq-eqb}
-use Rattle.lists.specs.Members.{_∈_}
-use Rattle.lists.proofs.Tests.{by-either, some-any}
+use borrow.Author.Tests.{eq-eqb, eqb-true}
+use Rattle.lists.specs.Members.{_∈_, Apart}
+use Rattle.lists.proofs.Tests.{by-either, some-any, filter-filter, and-true, true-and}
 use Rattle.rules.specs.declared.Enlistment.{Enlistment}
 use Rattle.rules.specs.declared.Table.{Table}
 use Rattle.rules.specs.TransactionState as transaction
 use Rattle.rules.specs.EnlistmentState as enlistment
 use Rattle.rules.specs.Identifiers.{Id}
-use Rattle.rules.specs.Table.{noTransaction, isLive, isNamed, transactionAt, stateAt, idAt, held, isNumbered, numbered}
-use Rattle.rules.specs.Sound.{Sound, HoldsWell, In, PhaseZero, active, phase-zero, phase-one, single-phase, committing, aborting, Live}
+use Rattle.rules.specs.Table.{noTransaction, isLive, isNamed, transactionAt, stateAt, idAt, held, isNumbered, numbered, heldBy, isHeld, isDurable}
+use Rattle.rules.specs.Sound.{Sound, HoldsWell, In, PhaseZero, active, phase-zero, phase-one, single-phase, committing, aborting, Live, SameNumber, Held}
 use Rattle.rules.specs.Refusals.{isNumberHeld}
 use Rattle.rules.proofs.Reacting as reacting
 use Rattle.rules.proofs.Frames.{of-held, named-is, is-named, named-place, not-zero, Stands}
-use Rattle.lists.proofs.Apart.{one-place}
+use Rattle.lists.proofs.Apart.{one-place, apart-narrower}
 use Rattle.safety.specs.World.{ownerOf}
-use Rattle.rules.proofs.Kept.{Kept, sound-kept, live-true, true-live}
+use Rattle.rules.proofs.Kept.{Kept, sound-kept, live-true, true-live, Proper, by-held}
 use Rattle.rules.proofs.Put.{member-held}
+use Rattle.lists.specs.Lists.{filter}
+use Rattle.rules.specs.Sizes.{identifierSize, largestNumber}
+use lib.ListN.{length}
 
 -- no two live transactions have one name
 pub one-place-named : {tb : Table} → Kept tb → (p q : ℕ) → Live (transactionAt p tb) → Live (transactionAt q tb) → idAt p tb ≡ idAt q tb → p ≡ q
 one-place-named {tb} k p q a b e = one-place (λ x y r. sym r) isLive noTransaction refl 1 p q (tb .transactions) (k .transactions .differ) (live-true (transactionAt p tb) a) (live-true (transactionAt q tb) b) e
+
+-- ── what a live transaction holds ───────────────────────────────────────────────────────────────────────────────
+
+module _ {tb : Table} (k : Kept tb) (p : ℕ) (somewhere : p ≡ 0 → ⊥) where
+  pub held-sized : {x : Enlistment} → x ∈ held p tb → (length (x .rm .0) ≡ identifierSize) × (x .number ≤ largestNumber)
+  held-sized {x} m = (proper .manager is-held .0, proper .number is-held .1)
+    where
+      is-held : Held x
+      is-held = member-held p tb somewhere m
+
+      proper : Proper x
+      proper = k .enlistments .proper x (of-held p tb m .0)
+
+  pub numbers-apart : Apart SameNumber (held p tb)
+  unfolding held
+  numbers-apart = apart-narrower isHeld (heldBy p) (by-held p somewhere) (λ x y a b r. r) (tb .enlistments) (k .enlistments .numbers-differ)
+
+  pub managers-apart : Apart (λ x y. x .rm .0 ≡ y .rm .0) (filter isDurable (held p tb))
+  unfolding held
+  managers-apart = rw (filter-filter isDurable (heldBy p) (tb .enlistments)) (apart-narrower (λ x. isHeld x && isDurable x) (λ x. heldBy p x && isDurable x)
+      (λ x h. and-true (by-held p somewhere x (true-and (heldBy p x) (isDurable x) h .0)) (true-and (heldBy p x) (isDurable x) h .1))
+      (λ x y a b r. (eqb-true (x .holder) p (true-and (heldBy p x) (isDurable x) a .0) ∙ sym (eqb-true (y .holder) p (true-and (heldBy p y) (isDurable y) b .0)), r))
+      (tb .enlistments) (rw (filter-filter isDurable isHeld (tb .enlistments)) at (k .enlistments .managers-differ)))
 
 -- ── names and numbers ───────────────────────────────────────────────────────────────────────────────────────────
 

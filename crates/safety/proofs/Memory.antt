@@ -7,12 +7,11 @@ use mathlib.Core.List.{List, [], _∷_}
 use borrow.Author.Tests.{eq-eqb}
 use Rattle.lists.specs.Members.{Some}
 use Rattle.lists.proofs.Tests.{no-clash}
-use Rattle.rules.specs.declared.Enlistment.{Enlistment}
 use Rattle.rules.specs.declared.Table.{Table}
 use Rattle.rules.specs.declared.Name.the-variants as name
 use Rattle.rules.specs.TransactionState as transaction
 use Rattle.rules.specs.Identifiers.{Id}
-use Rattle.rules.specs.Table.{placeNamed, stateAt, held}
+use Rattle.rules.specs.Table.{placeNamed, stateAt}
 use Rattle.rules.specs.Sound.{soundOf}
 use Rattle.rules.specs.Signals.{signal, Committed}
 use Rattle.rules.specs.Events.{acted, askOf}
@@ -25,16 +24,14 @@ use Rattle.safety.specs.Beyond.{Remembers, Remembered, AnsweredCommitted
 use Rattle.safety.proofs.Alone.{Story, View, out, early, voting, single, committing, aborting, Waits, Shape}
 use Rattle.safety.proofs.Top.{Always, always}
 use Rattle.safety.proofs.Story.{storyOf}
-use Rattle.safety.proofs.View.{viewOf, looks-committing}
+use Rattle.safety.proofs.View.{viewOf, Shows, shows-committing}
 use Rattle.safety.proofs.Steps.{step-needs-sound, zero-unsound}
 use Rattle.safety.proofs.Safety.{refines}
 
 -- ── no other shape is left ──────────────────────────────────────────────────────────────────────────────────────
 
-pub record Told (r : Id) (v : View) : Type 0 where
-  pub es : List Enlistment
-  pub is : v ≡ committing es
-  pub waits : Some (Waits r) es
+abbrev Told : Id → View → Type 0
+Told r v = Shows (Some (Waits r)) v
 
 module _ (t r : Id) (l : Story) (h : List Note) (waiting sent : List Issued) (issued : List Message) (c : About t Committed sent) (m : MayAsk t r h) where
   must-be-told : (v : View) → Shape t v l h waiting sent issued → Told r v
@@ -42,13 +39,11 @@ module _ (t r : Id) (l : Story) (h : List Note) (waiting sent : List Issued) (is
   must-be-told (early es) s = absurd (s .undecided .no-committed (inr c))
   must-be-told (voting es) s = absurd (s .undecided .no-committed (inr c))
   must-be-told (single es) s = absurd (s .undecided .no-committed (inr c))
-  must-be-told (committing es) s = record { es = es; is = refl; waits = s .wait r m }
+  must-be-told (committing es) s = record { es = es; is = refl; holds = s .wait r m }
   must-be-told aborting s = absurd (s .no-committed (inr c))
 
 remembers : (t r : Id) (tb : Table) → Told r (viewOf t tb) → Remembers t r tb
-unfolding viewOf
-remembers t r tb w = let p : (stateAt (placeNamed t tb) tb ≡ transaction.committing) × (held (placeNamed t tb) tb ≡ w .es) = looks-committing (stateAt (placeNamed t tb) tb) (held (placeNamed t tb) tb) (w .es) (w .is) in
-    record { state = p .0; waits = rw (p .1) (w .waits) }
+remembers t r tb w = let (q, waits) = shows-committing (Some (Waits r)) t tb w in record { state = q; waits = waits }
 
 pub remembered : Remembered
 unfolding Remembered refines

@@ -82,7 +82,7 @@ only-each f a es e s m = sym (ap (λ (s : Signal). f (s .name)) (of-map (λ e. s
 -- ── whom they are about ─────────────────────────────────────────────────────────────────────────────────────────
 
 -- a signal is about the event's transaction, or it is no verdict
-abbrev pub Home : Table → Event → Signal → Type 0
+abbrev Home : Table → Event → Signal → Type 0
 Home tb e s = (messageOf tb e s .about ≡ subjectOf tb e) ⊎ ((notCommitted (s .name) ≡ true) × (notAborted (s .name) ≡ true))
 
 abbrev pub Addressed : Table → Event → List Signal → Type 0

@@ -3,11 +3,11 @@
 use Prim.Native.Nat.{ℕ}
 use native.Mathlib.Omega.{arith}
 use mathlib.Core.Path.{_≡_, refl, sym, _∙_, ap}
-use mathlib.Core.Logic.{_⊎_, inl, inr, ⊎-elim}
+use mathlib.Core.Logic.{_⊎_, inl, inr}
 use mathlib.Core.Bool.{Bool, true, false}
 use mathlib.Core.List.{List, [], _∷_, _++_, List·Memᴰ, List·Memᴰ·head, List·Memᴰ·tail, List·Memᴰ·cases-cons, List·Memᴰ·append-cases, List·Memᴰ·not-nil, Memᴰ·append-left, Memᴰ·append-right, Memᴰ·of-map}
 use Rattle.lists.specs.Members.{_∈_, Each, Some}
-use Rattle.lists.proofs.Tests.{no-clash}
+use Rattle.lists.proofs.Tests.{no-clash, by-either}
 use Rattle.rules.specs.declared.Enlistment.{Enlistment}
 use Rattle.rules.specs.declared.Vote.{Vote}
 use Rattle.rules.specs.declared.Reply.the-variants as reply
@@ -23,7 +23,7 @@ use Rattle.safety.specs.Demand3.{About, Votes, Yes, VotedYes, AllVotedYe
 use Rattle.safety.proofs.Alone.{Story, none, open-with, closed, bad, Below, below-refl, below-trans, Logged, none-not-open, closed-not-open, View, out, early, voting, single, committing, aborting, Hopes, Waits, Is, Unasked, Preparing, NoDurable, managersOf, Entered, Begun, NoAsk, Good, AsksIn, New, Any, Base, Undecided, Shape, ShapeVoting, ShapeCommitting}
 
 -- the note tells neither of an enlistment nor of a vote
-abbrev pub isCalm : Note → Bool
+abbrev isCalm : Note → Bool
 isCalm (Note.begun t) = true
 isCalm (Note.enlisted t n r k) = false
 isCalm (Note.voted t n r k v) = false
@@ -131,7 +131,7 @@ module _ (t : Id) where
 
   -- ── small laws ────────────────────────────────────────────────────────────────────────────────────────────────
 
-  pub any-new : (P : Name → Type 0) (image : List ℕ) (ms : List Message) (waiting sent : List Issued) → Any t P (issue image ms ++ waiting) sent → New t P ms ⊎ Any t P waiting sent
+  any-new : (P : Name → Type 0) (image : List ℕ) (ms : List Message) (waiting sent : List Issued) → Any t P (issue image ms ++ waiting) sent → New t P ms ⊎ Any t P waiting sent
   any-new P image ms waiting sent (inr s) = inr (inr s)
   any-new P image ms waiting sent (inl s) = go (List·Memᴰ·append-cases (issue image ms) (s .there))
     where
@@ -142,12 +142,12 @@ module _ (t : Id) where
       go (inl i) = inl (new (Memᴰ·of-map (λ m. record { image = image; message = m }) ms i))
       go (inr i) = inr (inl (record { it = s .it; there = i; holds = s .holds }))
 
-  pub may-ask : {r : Id} {x : Note} {h : List Note} → MayAsk t r (x ∷ h) → Prepares t r x ⊎ ((Closes t r x → ⊥) × MayAsk t r h)
+  may-ask : {r : Id} {x : Note} {h : List Note} → MayAsk t r (x ∷ h) → Prepares t r x ⊎ ((Closes t r x → ⊥) × MayAsk t r h)
   may-ask (now p) = inl p
   may-ask (still c m) = inr (c, m)
 
   ask-calm : {r : Id} {x : Note} {h : List Note} → ((q : Id) → Prepares t q x → ⊥) → MayAsk t r (x ∷ h) → MayAsk t r h
-  ask-calm {r} c m = ⊎-elim (λ p. absurd (c r p)) (λ p. p .1) (may-ask m)
+  ask-calm {r} c m = by-either (λ p. absurd (c r p)) (λ p. p .1) (may-ask m)
 
   no-ask-calm : {x : Note} {h : List Note} → ((q : Id) → Prepares t q x → ⊥) → NoAsk t h → NoAsk t (x ∷ h)
   no-ask-calm c no-ask r m = no-ask r (ask-calm c m)
@@ -160,7 +160,7 @@ module _ (t : Id) where
 
   -- an enlistment noted before, if x notes none
   old : {n : ℕ} {r : Id} {k : ℕ} {x : Note} {h : List Note} → NotEnlisted x → Note.enlisted t n r k ∈ x ∷ h → Note.enlisted t n r k ∈ h
-  old {n} {r} {k} c m = ⊎-elim (λ e. absurd (c n r k (sym e))) (λ i. i) (List·Memᴰ·cases-cons m)
+  old {n} {r} {k} c m = by-either (λ e. absurd (c n r k (sym e))) (λ i. i) (List·Memᴰ·cases-cons m)
 
   one-more : {n : ℕ} {x : Note} {h : List Note} → NotEnlisted x → OnlyOne t n h → OnlyOne t n (x ∷ h)
   one-more c o = record { manager = o .manager; kind = o .kind; enlisted = List·Memᴰ·tail (o .enlisted); votes = o .votes; only = λ n r k i m. o .only n r k (old c i) m }
@@ -183,16 +183,16 @@ module _ (t : Id) where
   -- ── the invariant of the base ─────────────────────────────────────────────────────────────────────────────────
 
   module _ (storyOf : List ℕ → Story) (disk log log′ : Story) (h : List Note) (x : Note) (ms issued : List Message) (waiting sent : List Issued) (image : List ℕ) (imaged : storyOf image ≡ log′) where
-    abbrev pub Old : Type 0
+    abbrev Old : Type 0
     Old = Base t storyOf log disk h waiting sent issued
 
-    abbrev pub Next : Type 0
+    abbrev Next : Type 0
     Next = Base t storyOf log′ disk (x ∷ h) (issue image ms ++ waiting) sent (ms ++ issued)
 
-    abbrev pub Committed′ : Type 0
+    abbrev Committed′ : Type 0
     Committed′ = Any t Committed (issue image ms ++ waiting) sent
 
-    abbrev pub Aborted′ : Type 0
+    abbrev Aborted′ : Type 0
     Aborted′ = Any t Aborted (issue image ms ++ waiting) sent
 
     -- a commit message among those that wait is new, or waited before
@@ -200,10 +200,10 @@ module _ (t : Id) where
         → (New t Committed ms → NoAsk t (x ∷ h) ⊎ Logged log′)
         → (i ∈ waiting → NoAsk t (x ∷ h) ⊎ Logged (storyOf (i .image)))
         → NoAsk t (x ∷ h) ⊎ Logged (storyOf (i .image))
-    waits-cases i p a c f g = ⊎-elim new g (List·Memᴰ·append-cases (issue image ms) p)
+    waits-cases i p a c f g = by-either new g (List·Memᴰ·append-cases (issue image ms) p)
       where
         fit : (m : Message) × List·Memᴰ m ms × (record { image = image; message = m } ≡ i) → NoAsk t (x ∷ h) ⊎ Logged (storyOf (i .image))
-        fit (m, q, e) = ⊎-elim inl (λ logged. inr (rw (← e, imaged) logged)) (f (record { it = m; there = q; holds = (rw (← e) at a, rw (← e) at c) }))
+        fit (m, q, e) = by-either inl (λ logged. inr (rw (← e, imaged) logged)) (f (record { it = m; there = q; holds = (rw (← e) at a, rw (← e) at c) }))
 
         new : i ∈ issue image ms → NoAsk t (x ∷ h) ⊎ Logged (storyOf (i .image))
         new q = fit (Memᴰ·of-map (λ m. record { image = image; message = m }) ms q)
@@ -240,10 +240,10 @@ module _ (t : Id) where
     aborted-cases = any-new Aborted image ms waiting sent
 
     no-committed′ : (New t Committed ms → ⊥) → (Any t Committed waiting sent → ⊥) → Committed′ → ⊥
-    no-committed′ f g c = ⊎-elim f g (committed-cases c)
+    no-committed′ f g c = by-either f g (committed-cases c)
 
     no-aborted′ : (New t Aborted ms → ⊥) → (Any t Aborted waiting sent → ⊥) → Aborted′ → ⊥
-    no-aborted′ f g c = ⊎-elim f g (aborted-cases c)
+    no-aborted′ f g c = by-either f g (aborted-cases c)
 
     some-waiting : (i : Issued) → i ∈ waiting → i .message .about ≡ t → Committed (i .message .name) → Any t Committed waiting sent
     some-waiting i p a c = inl (record { it = i; there = p; holds = (a, c) })
@@ -255,8 +255,8 @@ module _ (t : Id) where
     make-none : Old → Begun t h → (log′ ≡ none) → (log ≡ none) → (Committed′ → ⊥) → (Any t Committed waiting sent → ⊥) → Next
     make-none b begun e before no-commit no-commit-before =
         make b (rw e none-fine) (rw before tt) begun (rw e tt)
-        (⊎-elim (λ c. absurd (no-commit c)) (λ g. absurd (rw e at g)))
-        (⊎-elim (λ c a. no-commit c) (λ g a. rw e at g))
+        (by-either (λ c. absurd (no-commit c)) (λ g. absurd (rw e at g)))
+        (by-either (λ c a. no-commit c) (λ g a. rw e at g))
         (λ m. absurd (no-commit (inl (some-new m))))
         (λ i p a c. absurd (no-commit-before (some-waiting i p a c)))
         (λ i p a c. absurd (no-commit-before (some-sent i p a c)))
@@ -285,7 +285,7 @@ module _ (t : Id) where
     make-calm : Old → Begun t h → Calm x → (log′ ≡ bad → ⊥) → Below log log′ → AsksIn t log′ (x ∷ h) → Good t h issued ⊎ (Committed′ ⊎ Logged log′ → Good t h issued) → (Committed′ ⊎ Logged log′ → Aborted′ → ⊥) → (New t Committed ms → NoAsk t (x ∷ h) ⊎ Logged log′) → Next
     make-calm b begun calm fine low asks good apart new =
         make b fine low begun asks
-        (λ p. good-more ms (calm .not-enlisted) (⊎-elim (λ g. g) (λ f. f p) good))
+        (λ p. good-more ms (calm .not-enlisted) (by-either (λ g. g) (λ f. f p) good))
         apart new
         (λ i p a c. lift-waits (calm .not-prepared) (b .waits i p a c))
         (λ i p a c. lift-waits (calm .not-prepared) (b .leaves i p a c))
@@ -311,15 +311,15 @@ module _ (t : Id) where
     }
       where
         committed-before : Committed′ → Any t Committed waiting sent
-        committed-before c = ⊎-elim (λ m. absurd (q .no-committed m)) (λ y. y) (committed-cases c)
+        committed-before c = by-either (λ m. absurd (q .no-committed m)) (λ y. y) (committed-cases c)
 
         aborted-before : Aborted′ → Any t Aborted waiting sent
-        aborted-before c = ⊎-elim (λ m. absurd (q .no-aborted m)) (λ y. y) (aborted-cases c)
+        aborted-before c = by-either (λ m. absurd (q .no-aborted m)) (λ y. y) (aborted-cases c)
 
     make-undecided : Old → Undecided t log h waiting sent → log′ ≡ log → Quiet ms → Next
     make-undecided b u e q = make-none b (u .begun) (e ∙ u .log-none) (u .log-none) (no-committed′ (q .no-committed) (u .no-committed)) (u .no-committed)
 
-    pub record Doom : Type 0 where
+    record Doom : Type 0 where
       pub log-none : log ≡ none
       pub begun : Begun t h
       pub no-committed : Any t Committed waiting sent → ⊥
@@ -341,11 +341,11 @@ module _ (t : Id) where
 
     -- every enlistment has voted yes, if x is the last vote
     last-vote : {es : List Enlistment} → ShapeVoting t es log h waiting sent → NotEnlisted x → ((n : ℕ) (r : Id) (k : ℕ) → Some (Preparing n r k) es → VoteOf n r k x) → AllVotedYes t (x ∷ h)
-    last-vote s c f n r k i m = ⊎-elim (voted-more x) (λ p. vote-of h (f n r k p)) (s .held n r k (old c i) m)
+    last-vote s c f n r k i m = by-either (voted-more x) (λ p. vote-of h (f n r k p)) (s .held n r k (old c i) m)
 
     -- who may ask now has prepared with x, or before
     hoping : {es : List Enlistment} → ShapeVoting t es log h waiting sent → (r : Id) → MayAsk t r (x ∷ h) → Some (Hopes r) es ⊎ Prepares t r x
-    hoping s r m = ⊎-elim inr (λ p. inl (s .hopes r (p .1))) (may-ask m)
+    hoping s r m = by-either inr (λ p. inl (s .hopes r (p .1))) (may-ask m)
 
     no-durable-ask : {es : List Enlistment} → ((r : Id) → MayAsk t r h → Some (Waits r) es) → NoDurable es → NoAsk t h
     no-durable-ask f d r m = let w : Some (Waits r) _ = f r m in d (w .it) (w .there) (w .holds .0)
@@ -369,10 +369,10 @@ module _ (t : Id) where
     out-none bad a f r m = absurd (a r m)
 
     close-all : {es : List Enlistment} → Calm x → ((r : Id) → MayAsk t r h → Some (Waits r) es) → ((r : Id) → Some (Waits r) es → Closes t r x) → NoAsk t (x ∷ h)
-    close-all c f g r m = ⊎-elim (c .not-prepared r) (λ p. p .0 (g r (f r (p .1)))) (may-ask m)
+    close-all c f g r m = by-either (c .not-prepared r) (λ p. p .0 (g r (f r (p .1)))) (may-ask m)
 
     told-waits : {es : List Enlistment} → Calm x → ShapeCommitting t es log h waiting sent issued → log′ ≡ log → NoAsk t (x ∷ h) ⊎ Logged log′
-    told-waits c s e = ⊎-elim
+    told-waits c s e = by-either
         (λ p. inr (rw (e, p .1) tt))
         (λ p. inl (no-ask-calm (c .not-prepared) (no-durable-ask (s .wait) (p .1))))
         (s .record-or-none)
@@ -424,7 +424,7 @@ module _ (t : Id) where
       no-aborted = no-aborted′ (q .no-aborted) (u .no-aborted);
     }
 
-    abbrev pub Shape′ : View → Type 0
+    abbrev Shape′ : View → Type 0
     Shape′ v = Shape t v log′ (x ∷ h) (issue image ms ++ waiting) sent (ms ++ issued)
 
     told-shape : {es es′ : List Enlistment} → ShapeCommitting t es log h waiting sent issued → log′ ≡ log → Calm x → (New t Aborted ms → ⊥)
@@ -435,8 +435,8 @@ module _ (t : Id) where
       begun = List·Memᴰ·tail (s .begun);
       no-aborted = no-aborted′ no-abort (s .no-aborted);
       good = good-more ms (c .not-enlisted) (s .good);
-      wait = λ r m. ⊎-elim (λ p. absurd (c .not-prepared r p)) (λ p. ⊎-elim (λ w. w) (λ closes. absurd (p .0 closes)) (f r (s .wait r (p .1)))) (may-ask m);
-      record-or-none = ⊎-elim (λ p. inl (p .0, e ∙ p .1, g (p .2), λ y m. k (y .number) (p .3 y m))) (λ p. inr (e ∙ p .0, d (p .1))) (s .record-or-none);
+      wait = λ r m. by-either (λ p. absurd (c .not-prepared r p)) (λ p. by-either (λ w. w) (λ closes. absurd (p .0 closes)) (f r (s .wait r (p .1)))) (may-ask m);
+      record-or-none = by-either (λ p. inl (p .0, e ∙ p .1, g (p .2), λ y m. k (y .number) (p .3 y m))) (λ p. inr (e ∙ p .0, d (p .1))) (s .record-or-none);
     }
 
     gone-shape : {v : View} → Doom → log′ ≡ log → Gone v → (New t Committed ms → ⊥) → Shape′ v
@@ -450,7 +450,7 @@ module _ (t : Id) where
     pub stay-shape : (v : View) → log′ ≡ log → Calm x → Quiet ms → Shape t v log h waiting sent issued → Shape′ v
     stay-shape out e c q s = record {
       not-open = λ rs p. s .not-open rs (sym e ∙ p);
-      no-ask = λ a. no-ask-calm (c .not-prepared) (s .no-ask (⊎-elim (λ m. absurd (q .no-committed m)) (λ y. y) (committed-cases a)));
+      no-ask = λ a. no-ask-calm (c .not-prepared) (s .no-ask (by-either (λ m. absurd (q .no-committed m)) (λ y. y) (committed-cases a)));
     }
     stay-shape (early es) e c q s = record {
       undecided = undecided-next (s .undecided) e q;
@@ -460,7 +460,7 @@ module _ (t : Id) where
     }
     stay-shape (voting es) e c q s = record {
       undecided = undecided-next (s .undecided) e q;
-      held = λ n r k i m. ⊎-elim (λ v. inl (voted-more x v)) inr (s .held n r k (old (c .not-enlisted) i) m);
+      held = λ n r k i m. by-either (λ v. inl (voted-more x v)) inr (s .held n r k (old (c .not-enlisted) i) m);
       hopes = λ r m. s .hopes r (ask-calm (c .not-prepared) m);
     }
     stay-shape (single es) e c q s = record {
@@ -496,8 +496,8 @@ module _ (t : Id) where
     keep-shape b s (gather e not-prepared q f g j) = record {
       undecided = undecided-next (s .undecided) e q;
       no-ask = no-ask-calm not-prepared (s .no-ask);
-      held = λ n r k i m. ⊎-elim (λ p. g n r k (sym p) m) (λ o. f n r k (s .held n r k o m)) (List·Memᴰ·cases-cons i);
-      noted = λ y i. ⊎-elim (λ w. List·Memᴰ·tail (rw (w .holds .0, w .holds .1, w .holds .2) at (s .noted (w .it) (w .there)))) (λ p. List·Memᴰ·head (sym p)) (j y i);
+      held = λ n r k i m. by-either (λ p. g n r k (sym p) m) (λ o. f n r k (s .held n r k o m)) (List·Memᴰ·cases-cons i);
+      noted = λ y i. by-either (λ w. List·Memᴰ·tail (rw (w .holds .0, w .holds .1, w .holds .2) at (s .noted (w .it) (w .there)))) (λ p. List·Memᴰ·head (sym p)) (j y i);
     }
     keep-shape b s (prepare e c q f) = record {
       undecided = undecided-next (s .undecided) e q;
@@ -521,8 +521,8 @@ module _ (t : Id) where
     keep-shape b s (commit-empty e c no-abort f) = out-shape (none-not-open (e ∙ s .undecided .log-none)) (no-ask-calm (c .not-prepared) (s .no-ask))
     keep-shape b s (vote-on e q not-enlisted f g p) = record {
       undecided = undecided-next (s .undecided) e q;
-      held = λ n r k i m. ⊎-elim (λ v. inl (voted-more x v)) (λ w. ⊎-elim (λ v. inl (vote-of h v)) inr (f n r k w)) (s .held n r k (old not-enlisted i) m);
-      hopes = λ r m. ⊎-elim (g r) (p r) (hoping s r m);
+      held = λ n r k i m. by-either (λ v. inl (voted-more x v)) (λ w. by-either (λ v. inl (vote-of h v)) inr (f n r k w)) (s .held n r k (old not-enlisted i) m);
+      hopes = λ r m. by-either (g r) (p r) (hoping s r m);
     }
     keep-shape b s (decide-logged {rs = rs} e not-enlisted no-abort f g d n) = record {
       begun = List·Memᴰ·tail (s .undecided .begun);
@@ -544,7 +544,7 @@ module _ (t : Id) where
     keep-shape b s (told-on e c no-abort f g d n) = told-shape s e c no-abort f g d n
     keep-shape b s (end-logged e c q f) = out-shape (closed-not-open e) (close-all c (s .wait) f)
     keep-shape b s (end-unlogged e c q d) = out-shape
-        (λ rs p. ⊎-elim (λ o. d (o .2 .it) (o .2 .there) (o .2 .holds)) (λ o. none-not-open (e ∙ o .0) rs p) (s .record-or-none))
+        (λ rs p. by-either (λ o. d (o .2 .it) (o .2 .there) (o .2 .holds)) (λ o. none-not-open (e ∙ o .0) rs p) (s .record-or-none))
         (no-ask-calm (c .not-prepared) (no-durable-ask (s .wait) d))
     keep-shape b s (answer-out r e m c no-commit) = record {
       not-open = λ rs p. s .not-open rs (sym e ∙ p);

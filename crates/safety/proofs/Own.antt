@@ -9,10 +9,10 @@ use mathlib.Core.List.{List, [], _∷_, _++_, map, append-nil, List·Memᴰ·hea
 use lib.ListN.{length, take, length-append, length-map}
 use lib.Dec.{eqb}
 use borrow.Author.Tests.{eqb-true, eqb-false, eq-eqb, ne-eqb, ltb-false}
-use Rattle.lists.specs.Members.{_∈_, Each, Some, Apart}
+use Rattle.lists.specs.Members.{_∈_, Each, Some}
 use Rattle.lists.specs.Lists.{all, any, none, filter}
 use Rattle.lists.specs.Sorting.{insertBy, sortBy}
-use Rattle.lists.proofs.Tests.{by-cases, by-test, by-either, no-clash, true-and, not-true, not-false, in-filter, of-filter, length-filter, in-map, of-map, all-each, some-any, none-each, each-nothing, each-map, each-both, each-one, in-one, member-some}
+use Rattle.lists.proofs.Tests.{by-cases, by-either, no-clash, true-and, not-true, not-false, in-filter, of-filter, length-filter, in-map, of-map, all-each, some-any, none-each, each-nothing, each-map, each-both, each-one, in-one, member-some}
 use Rattle.lists.proofs.Sorting.{in-sort, of-sort, length-sort}
 use Rattle.lists.proofs.Apart.{apart-filter, apart-sort}
 use Rattle.rules.specs.declared.Enlistment.{Enlistment}
@@ -23,18 +23,18 @@ use Rattle.rules.specs.declared.Name.the-variants as name
 use Rattle.rules.specs.Kinds as kind
 use Rattle.rules.specs.TransactionState as transaction
 use Rattle.rules.specs.EnlistmentState as enlistment
-use Rattle.rules.specs.Sizes.{identifierSize, largestNumber, heldMost, recordSize}
+use Rattle.rules.specs.Sizes.{identifierSize, largestNumber, recordSize}
 use Rattle.rules.specs.Identifiers.{Id, sameBytes}
 use Rattle.rules.specs.Table.{transactionAt, stateAt, idAt, held, isDurable, isMarked, isIn, isDone, inState, changeHeld, changeTransaction, goTo, emptied, useMore}
-use Rattle.rules.specs.Sound.{openCount, Durable}
+use Rattle.rules.specs.Sound.{openCount, Durable, Live}
 use Rattle.rules.specs.Log.{Entry, Record, recordBytes, entriesBytes, allBytes, commitSize, forgetSize, written}
 use Rattle.rules.specs.Restart.{Open, isOpenAs, afterRecord, openAfter, allFitting}
 use Rattle.rules.specs.Signals.{byNumber, signal, toEach, toApp, Committed}
 use Rattle.rules.specs.Events.{Outcome, quietly, saying, append, endOf, endIfDone, hearsAbort, abortedOf, abortOf, entryOf, commitRecord, lacksRoom, committedOf, commitSignals, committing, endCommitted, decideOf, startPhaseOne}
 use Rattle.rules.proofs.Identifiers.{same-refl, equal-same, other-not-same}
 use Rattle.rules.proofs.Records.{ValidEntry, Valid, valid-commit, valid-forget, entries-length}
-use Rattle.rules.proofs.Frames.{Keeps, held-came, held-own, named-is, named-other, written-used, Stands, stands-goes, state-goes}
-use Rattle.rules.proofs.Parts.{used-emptied, closed-end}
+use Rattle.rules.proofs.Frames.{held-came, held-own, named-is, written-used, Stands, stands-goes, state-goes}
+use Rattle.rules.proofs.Parts.{used-emptied, closed-end, aborts}
 use Rattle.rules.proofs.Ordered.{by-number-ascends}
 use Rattle.safety.specs.World.{Note, noteOf, messageOf, subjectOf}
 use Rattle.safety.specs.Host.{Prepares, Closes, careful, Makes}
@@ -47,8 +47,10 @@ use Rattle.safety.proofs.View.{viewOf, look, view-stands, view-goes, go
 use Rattle.safety.proofs.Open.{FitCommit, fits-commit}
 use Rattle.safety.proofs.Fitting.{Ready, Judged, judged-nothing, mine-none, told-open, open-shown, shown-open, open-count, commit-fit, live-nonzero, forget-fit, one-forgotten}
 use Rattle.safety.proofs.Messages.{notCommitted, notAborted, Only, only-nothing, only-one, only-each, Addressed, Owned, owned-about, addressed-nothing, addressed-one, addressed-each, none-committed, none-aborted, quiet}
-use Rattle.rules.proofs.Phases.{committed-key}
+use Rattle.rules.proofs.Phases.{committed-key, commits, goes-to}
 use Rattle.rules.specs.declared.Name.{Name}
+use Rattle.rules.proofs.Kept.{Kept, true-live, live-some}
+use Rattle.safety.proofs.Given.{held-sized, numbers-apart, managers-apart}
 
 -- ── what is shown of an outcome ─────────────────────────────────────────────────────────────────────────────────
 
@@ -85,10 +87,7 @@ pub used-goes : (p s : ℕ) (f : Enlistment → Enlistment) (tb : Table) → goT
 unfolding changeHeld changeTransaction
 used-goes p s f tb = refl
 
-pub ends-for : (t : Id) (p : ℕ) (tb : Table) → Stands t p tb → (u : Id) → (u ≡ t → ⊥) → viewOf u (emptied p tb) ≡ viewOf u tb
-ends-for t p tb s u d = ends-other u p tb (named-other t u (transactionAt p tb) (s .here) d)
-
-pub unlogged-end : (p : ℕ) (tb : Table) (log : List ℕ) → (stateAt p tb ≡ transaction.committing → ⊥) → endOf p tb log ≡ quietly (emptied p tb) log
+unlogged-end : (p : ℕ) (tb : Table) (log : List ℕ) → (stateAt p tb ≡ transaction.committing → ⊥) → endOf p tb log ≡ quietly (emptied p tb) log
 unlogged-end p tb log n = closed-end p tb log (rw (ne-eqb (stateAt p tb) transaction.committing n) refl)
 
 -- ── what an event does to its own transaction ───────────────────────────────────────────────────────────────────
@@ -100,16 +99,13 @@ pub record Touched (t : Id) (p : ℕ) (tb tb₁ : Table) : Type 0 where
   pub before : Stands t p tb
   pub stands : Stands t p tb₁
   pub other-view : (u : Id) → (u ≡ t → ⊥) → viewOf u tb₁ ≡ viewOf u tb
-  pub sized : Each (λ x. (length (x .rm .0) ≡ identifierSize) × (x .number ≤ largestNumber)) (held p tb₁)
-  pub few : length (held p tb₁) ≤ heldMost
+  pub kept : Kept tb₁
   pub owned : Each (λ x. Owned tb t (x .number)) (held p tb₁)
-  -- what is held was held, and no two are alike
+  -- what is held was held
   pub came : Each (λ x. Some (λ y. (x .rm .0 ≡ y .rm .0) × (x .number ≡ y .number)) (held p tb)) (held p tb₁)
-  pub numbers-apart : Apart (λ x y. x .number ≡ y .number) (held p tb₁)
-  pub managers-apart : Apart (λ x y. x .rm .0 ≡ y .rm .0) (filter isDurable (held p tb₁))
 
 module _ (tb : Table) (e : Event) (log : List ℕ) (t : Id) (p : ℕ) (tb₁ : Table) (z : Touched t p tb tb₁) (about : subjectOf tb e ≡ t) where
-  abbrev pub hs₁ : List Enlistment
+  abbrev hs₁ : List Enlistment
   hs₁ = held p tb₁
 
   abbrev Here : Outcome → Type 0
@@ -117,6 +113,12 @@ module _ (tb : Table) (e : Event) (log : List ℕ) (t : Id) (p : ℕ) (tb₁ : T
 
   abbrev Moves : List Signal → Table → Type 0
   Moves ss tb₂ = (h : List Note) → Makes careful h e → (l : Story) → Agrees (viewOf t tb) l → Move t h (noteOf tb e) (map (messageOf tb e) ss) l l (viewOf t tb) (viewOf t tb₂)
+
+  live : Live (transactionAt p tb₁)
+  live = true-live (transactionAt p tb₁) (named-is t (transactionAt p tb₁) (z .stands .here) .0)
+
+  somewhere : p ≡ 0 → ⊥
+  somewhere = live-some p tb₁ live
 
   home : Each (λ x. Owned tb (subjectOf tb e) (x .number)) hs₁
   home x m = rw about (z .owned x m)
@@ -129,20 +131,16 @@ module _ (tb : Table) (e : Event) (log : List ℕ) (t : Id) (p : ℕ) (tb₁ : T
   pub own-end-saying : (a : Name) → (stateAt p tb₁ ≡ transaction.committing → ⊥)
       → ((h : List Note) → Makes careful h e → (l : Story) → Agrees (viewOf t tb) l → Move t h (noteOf tb e) (map (messageOf tb e) (toApp a)) l l (viewOf t tb) out)
       → Here (saying (toApp a) (endOf p tb₁ log))
-  own-end-saying a not-committing moves = rw (unlogged-end p tb₁ log not-committing) (unlogged (emptied p tb₁) (toApp a) (addressed-one tb e a 0 (inl refl)) (used-emptied p tb₁) (ends-for t p tb₁ (z .stands))
+  own-end-saying a not-committing moves = rw (unlogged-end p tb₁ log not-committing) (unlogged (emptied p tb₁) (toApp a) (addressed-one tb e a 0 (inl refl)) (used-emptied p tb₁) (ends-other t p tb₁ (z .stands))
       (λ h f l g. rw (view-ends t p tb₁ (z .stands)) (moves h f l g)))
 
   -- ── abort ─────────────────────────────────────────────────────────────────────────────────────────────────────
-
-  keeps-aborted : Keeps abortedOf
-  unfolding abortedOf
-  keeps-aborted x = by-test (hearsAbort x) (λ b. rw b (inl refl)) (λ b. by-test (isIn enlistment.preparedLost x) (λ c. rw (b, c) (inl refl)) (λ c. rw (b, c) (inl refl)))
 
   pub own-abort : Doomed t (viewOf t tb) → Here (abortOf p tb₁ log)
   unfolding abortOf endIfDone
   own-abort d = rw (unlogged-end p tb₂ log (λ q. six-five (sym (state-goes t p transaction.aborting (changeHeld p abortedOf tb₁) (stands-held t p p abortedOf tb₁ (z .stands))) ∙ q)))
       (by-cases (λ o. Here (saying ss o)) (all isDone (held p tb₂)) (quietly (emptied p tb₂) log) (quietly tb₂ log)
-      (λ _. unlogged (emptied p tb₂) ss addressed (used-emptied p tb₂ ∙ used-goes p transaction.aborting abortedOf tb₁) (λ u n. ends-for t p tb₂ at u n ∙ others u n)
+      (λ _. unlogged (emptied p tb₂) ss addressed (used-emptied p tb₂ ∙ used-goes p transaction.aborting abortedOf tb₁) (λ u n. ends-other t p tb₂ at u n ∙ others u n)
       (λ h f l a. rw (view-ends t p tb₂ at) (abort refl d to-out silent)))
       (λ _. unlogged tb₂ ss addressed (used-goes p transaction.aborting abortedOf tb₁) others
       (λ h f l a. rw (view-goes t p tb₁ (z .stands) transaction.aborting abortedOf (λ q. omega arith)) (abort refl d to-aborting silent))))
@@ -166,7 +164,7 @@ module _ (tb : Table) (e : Event) (log : List ℕ) (t : Id) (p : ℕ) (tb₁ : T
       addressed = each-both (toEach name.Abort hs) (toApp name.AppAborted) (addressed-each tb e name.Abort hs (λ x m. home x (of-filter hearsAbort hs₁ m .0))) (addressed-one tb e name.AppAborted 0 (inl refl))
 
       others : (u : Id) → (u ≡ t → ⊥) → viewOf u tb₂ ≡ viewOf u tb₁
-      others u n = goes-other t p tb₁ (z .stands) transaction.aborting abortedOf u keeps-aborted n
+      others u n = goes-other t p tb₁ (z .stands) transaction.aborting abortedOf u aborts n
 
       silent : New t Committed (map (messageOf tb e) ss) → ⊥
       silent = none-committed t tb e ss (each-both (toEach name.Abort hs) (toApp name.AppAborted) (only-each notCommitted name.Abort hs refl) (only-one notCommitted name.AppAborted 0 refl))
@@ -179,9 +177,6 @@ module _ (tb : Table) (e : Event) (log : List ℕ) (t : Id) (p : ℕ) (tb₁ : T
     pub preparing : (n : ℕ) (r : Id) (k : ℕ) → Some (Preparing n r k) hs → VoteOf t n r k x ⊎ Some (Preparing n r k) hs₁
     pub hopes : (r : Id) → Some (Hopes r) hs → Some (Hopes r) hs₁
     pub prepares : (r : Id) → Prepares t r x → Some (Hopes r) hs₁
-
-  keeps-committed : Keeps committedOf
-  keeps-committed x = inl (committed-key x .holder)
 
   commit-waits : (r : Id) (x : Enlistment) → Hopes r x → Waits r (committedOf x)
   unfolding committedOf
@@ -225,7 +220,7 @@ module _ (tb : Table) (e : Event) (log : List ℕ) (t : Id) (p : ℕ) (tb₁ : T
         (λ h f l a. rw shown (decide-empty refl (v .calm) (none-aborted t tb e (toApp name.AppCommitted) (only-one notAborted name.AppCommitted 0 refl)) all-voted (λ r w. empty-some hs₁ (Hopes r) empty (hoping r w))))
 
     decide-volatile : any isDurable hs₁ ≡ false → Here (saying (commitSignals hs₁) (quietly (committing p tb₁) log))
-    decide-volatile no-durable = unlogged (committing p tb₁) (commitSignals hs₁) commit-home (used-goes p transaction.committing committedOf tb₁) (λ u n. goes-other t p tb₁ (z .stands) transaction.committing committedOf u keeps-committed n)
+    decide-volatile no-durable = unlogged (committing p tb₁) (commitSignals hs₁) commit-home (used-goes p transaction.committing committedOf tb₁) (λ u n. goes-other t p tb₁ (z .stands) transaction.committing committedOf u commits n)
         (λ h f l a. rw (shown, view-goes t p tb₁ (z .stands) transaction.committing committedOf (λ q. omega arith))
         (decide-unlogged refl (v .calm) (none-aborted t tb e (commitSignals hs₁) commit-not-aborted) all-voted
         (λ r w. let y : Some (Hopes r) hs₁ = hoping r w in none-durable hs₁ no-durable (y .it) (y .there) (y .holds .0))
@@ -247,11 +242,11 @@ module _ (tb : Table) (e : Event) (log : List ℕ) (t : Id) (p : ℕ) (tb₁ : T
 
       entries-ok : Each ValidEntry entries
       unfolding entries ds
-      entries-ok = entries-valid ds (λ x m. z .sized x (of-filter isDurable hs₁ (of-sort byNumber (filter isDurable hs₁) m) .0))
+      entries-ok = entries-valid ds (λ x m. held-sized (z .kept) p somewhere (of-filter isDurable hs₁ (of-sort byNumber (filter isDurable hs₁) m) .0))
 
       ok : Valid (Record.commit t entries)
       ok = valid-commit {es = entries} id-size (rw as-many (member-some (filter isDurable hs₁) (in-filter isDurable hs₁ (durables .there) (eq-eqb (durables .it .kind) kind.durable (durables .holds)))))
-          (rw as-many (omega (arith, length-filter isDurable hs₁, z .few))) entries-ok
+          (rw as-many (omega (arith, length-filter isDurable hs₁, z .kept .few p live))) entries-ok
 
       listed : (q : Id) → Some (Hopes q) hs₁ → q ∈ managersOf entries
       unfolding entries ds
@@ -288,8 +283,8 @@ module _ (tb : Table) (e : Event) (log : List ℕ) (t : Id) (p : ℕ) (tb₁ : T
           fit : (os : List Open) → Ready tb log os → FitCommit os t entries
           fit os r = commit-fit tb log os r t p (z .before) undecided (closed-to os r) ds (λ x m. z .came x (of-filter isDurable hs₁ (of-sort byNumber (filter isDurable hs₁) m) .0))
               (by-number-ascends (filter isDurable hs₁))
-              (apart-sort byNumber (λ x y r. sym r) (filter isDurable hs₁) (apart-filter isDurable hs₁ (z .numbers-apart)))
-              (apart-sort byNumber (λ x y r. sym r) (filter isDurable hs₁) (z .managers-apart))
+              (apart-sort byNumber (λ x y r. sym r) (filter isDurable hs₁) (apart-filter isDurable hs₁ (numbers-apart (z .kept) p somewhere)))
+              (apart-sort byNumber (λ x y r. sym r) (filter isDurable hs₁) (managers-apart (z .kept) p somewhere))
 
           known : (os : List Open) → Ready tb log os → length os ≤ openCount tb₁
           known os r = open-count tb₁ os (r .fit .ids-apart) (λ o m. open-shown o tb₁ (rw (z .other-view (o .id) (λ q. no-clash (any (isOpenAs t) os) (some-any (isOpenAs t) os (record { it = o; there = m; holds = equal-same (o .id) t q })) (closed-to os r))) (shown-open tb log os r o m)))
@@ -304,7 +299,7 @@ module _ (tb : Table) (e : Event) (log : List ℕ) (t : Id) (p : ℕ) (tb₁ : T
         valid = each-one Valid ok;
         bytes = ap (λ n. take (n + length bs) (written n bs log)) (used-goes p transaction.committing committedOf tb₁) ∙ written-used (tb₁ .used) bs log (omega (arith, size, fits)) ∙ ap₂ (λ n l. take n log ++ l) (z .used) (sym (append-nil bs));
         other-story = λ u n s. rw (not-same u n) refl;
-        other-view = λ u n. view-more u (length bs) (committing p tb₁) ∙ goes-other t p tb₁ (z .stands) transaction.committing committedOf u keeps-committed n ∙ z .other-view u n;
+        other-view = λ u n. view-more u (length bs) (committing p tb₁) ∙ goes-other t p tb₁ (z .stands) transaction.committing committedOf u commits n ∙ z .other-view u n;
         judged = commit-judged;
         addressed = commit-home;
         move = λ h f l a. rw (shown, view-more t (length bs) (committing p tb₁) ∙ view-goes t p tb₁ (z .stands) transaction.committing committedOf (λ q. omega arith))
@@ -333,7 +328,7 @@ module _ (tb : Table) (e : Event) (log : List ℕ) (t : Id) (p : ℕ) (tb₁ : T
   pub own-end-aborting : viewOf t tb ≡ aborting → stateAt p tb₁ ≡ transaction.aborting → viewOf t tb₁ ≡ aborting → Here (endIfDone p tb₁ log)
   unfolding endIfDone
   own-end-aborting shown state shown-after = rw (unlogged-end p tb₁ log (λ q. omega (arith, state, q))) (by-cases Here (all isDone hs₁) (quietly (emptied p tb₁) log) (quietly tb₁ log)
-      (λ _. unlogged (emptied p tb₁) [] (addressed-nothing tb e) (used-emptied p tb₁) (ends-for t p tb₁ (z .stands))
+      (λ _. unlogged (emptied p tb₁) [] (addressed-nothing tb e) (used-emptied p tb₁) (ends-other t p tb₁ (z .stands))
       (λ h f l a. rw (shown, view-ends t p tb₁ (z .stands)) (abort refl from-aborting to-out (none-committed t tb e [] (only-nothing notCommitted)))))
       (λ _. unlogged tb₁ [] (addressed-nothing tb e) refl (λ u n. refl) (λ h f l a. rw (shown, shown-after) (abort refl from-aborting to-aborting (none-committed t tb e [] (only-nothing notCommitted))))))
 
@@ -367,7 +362,7 @@ module _ (tb : Table) (e : Event) (log : List ℕ) (t : Id) (p : ℕ) (tb₁ : T
       valid = each-one Valid (valid-forget id-size);
       bytes = ap (λ n. take (n + length bs) (written n bs log)) (used-emptied p tb₁) ∙ written-used (tb₁ .used) bs log (omega (arith, fits, size)) ∙ ap₂ (λ n l. take n log ++ l) (z .used) (sym (append-nil bs));
       other-story = λ u n s. rw (not-same u n) refl;
-      other-view = λ u n. view-more u (length bs) (emptied p tb₁) ∙ ends-for t p tb₁ (z .stands) u n ∙ z .other-view u n;
+      other-view = λ u n. view-more u (length bs) (emptied p tb₁) ∙ ends-other t p tb₁ (z .stands) u n ∙ z .other-view u n;
       judged = forget-judged d (ap (λ n. n + length bs) (used-emptied p tb₁ ∙ z .used) ∙ ap (λ n. tb .used + n) size);
       addressed = addressed-nothing tb e;
       move = λ h f l a. rw (same-refl t, shown, view-more t (length bs) (emptied p tb₁) ∙ view-ends t p tb₁ (z .stands))
@@ -381,7 +376,7 @@ module _ (tb : Table) (e : Event) (log : List ℕ) (t : Id) (p : ℕ) (tb₁ : T
         size = rw id-size refl
 
     end-volatile : any isDurable hs₁ ≡ false → Here (quietly (emptied p tb₁) log)
-    end-volatile n = unlogged (emptied p tb₁) [] (addressed-nothing tb e) (used-emptied p tb₁) (ends-for t p tb₁ (z .stands))
+    end-volatile n = unlogged (emptied p tb₁) [] (addressed-nothing tb e) (used-emptied p tb₁) (ends-other t p tb₁ (z .stands))
         (λ h f l a. rw (shown, view-ends t p tb₁ (z .stands)) (end-unlogged refl (w .calm) (quiet t tb e [] (only-nothing notCommitted) (only-nothing notAborted))
         (λ x m k. let d : Some Durable hs₁ = w .durable (record { it = x; there = m; holds = k }) in none-durable hs₁ n (d .it) (d .there) (d .holds))))
 
@@ -397,9 +392,6 @@ module _ (tb : Table) (e : Event) (log : List ℕ) (t : Id) (p : ℕ) (tb₁ : T
 
   -- ── start of phase one ────────────────────────────────────────────────────────────────────────────────────────
 
-  keeps-state : (s : ℕ) → Keeps (inState s)
-  keeps-state s x = inl refl
-
   module _ (hs : List Enlistment) (shown : viewOf t tb ≡ early hs) (calm : Calm t (noteOf tb e)) (unasked : (n : ℕ) (r : Id) (k : ℕ) → Some (Unasked n r k) hs → Some (Unasked n r k) hs₁)
       (joined : Each (λ x. Some (Unasked (x .number) (x .rm .0) (x .kind)) hs) hs₁) where
     start-none : (stateAt p tb₁ ≡ transaction.committing → ⊥) → eqb (length hs₁) 0 ≡ true → Here (endCommitted p tb₁ log)
@@ -411,7 +403,7 @@ module _ (tb : Table) (e : Event) (log : List ℕ) (t : Id) (p : ℕ) (tb₁ : T
     unfolding messageOf toEach sortBy insertBy
     start-one [] q o = absurd (omega (arith, eqb-true 0 1 o))
     start-one (x ∷ y ∷ es) q o = absurd (omega (arith, eqb-true (length (x ∷ y ∷ es)) 1 o))
-    start-one (x ∷ []) q o = unlogged (goTo p transaction.singlePhase (changeHeld p (inState enlistment.onePhase) tb₁)) (toEach name.Single hs₁) (addressed-each tb e name.Single hs₁ home) (used-goes p transaction.singlePhase (inState enlistment.onePhase) tb₁) (λ u n. goes-other t p tb₁ (z .stands) transaction.singlePhase (inState enlistment.onePhase) u (keeps-state enlistment.onePhase) n)
+    start-one (x ∷ []) q o = unlogged (goTo p transaction.singlePhase (changeHeld p (inState enlistment.onePhase) tb₁)) (toEach name.Single hs₁) (addressed-each tb e name.Single hs₁ home) (used-goes p transaction.singlePhase (inState enlistment.onePhase) tb₁) (λ u n. goes-other t p tb₁ (z .stands) transaction.singlePhase (inState enlistment.onePhase) u (goes-to enlistment.onePhase) n)
         (λ h f l a. rw (shown, view-goes t p tb₁ (z .stands) transaction.singlePhase (inState enlistment.onePhase) (λ q. omega arith))
         (ask-one {n₀ = x .number} {r₀ = x .rm .0} {k₀ = x .kind} refl calm (quiet t tb e (toEach name.Single hs₁) (only-each notCommitted name.Single hs₁ refl) (only-each notAborted name.Single hs₁ refl))
         (joined x here)
@@ -435,7 +427,7 @@ module _ (tb : Table) (e : Event) (log : List ℕ) (t : Id) (p : ℕ) (tb₁ : T
         there q = rw q (List·Memᴰ·head (λ i. record { about = mine i; name = name.Single; number = x .number }))
 
     start-many : Here (saying (toEach name.Prepare hs₁) (quietly (goTo p transaction.phaseOne (changeHeld p (inState enlistment.preparing) tb₁)) log))
-    start-many = unlogged (goTo p transaction.phaseOne (changeHeld p (inState enlistment.preparing) tb₁)) (toEach name.Prepare hs₁) (addressed-each tb e name.Prepare hs₁ home) (used-goes p transaction.phaseOne (inState enlistment.preparing) tb₁) (λ u n. goes-other t p tb₁ (z .stands) transaction.phaseOne (inState enlistment.preparing) u (keeps-state enlistment.preparing) n)
+    start-many = unlogged (goTo p transaction.phaseOne (changeHeld p (inState enlistment.preparing) tb₁)) (toEach name.Prepare hs₁) (addressed-each tb e name.Prepare hs₁ home) (used-goes p transaction.phaseOne (inState enlistment.preparing) tb₁) (λ u n. goes-other t p tb₁ (z .stands) transaction.phaseOne (inState enlistment.preparing) u (goes-to enlistment.preparing) n)
         (λ h f l a. rw (shown, view-goes t p tb₁ (z .stands) transaction.phaseOne (inState enlistment.preparing) (λ q. omega arith))
         (prepare refl calm (quiet t tb e (toEach name.Prepare hs₁) (only-each notCommitted name.Prepare hs₁ refl) (only-each notAborted name.Prepare hs₁ refl))
         (λ n r k w. held-own (Unasked n r k) (Preparing n r k) p (inState enlistment.preparing) tb₁ (λ x _ u. ((u .0, refl), refl)) (unasked n r k w))))

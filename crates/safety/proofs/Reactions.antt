@@ -5,16 +5,15 @@ use native.Mathlib.Omega.{arith}
 use native.Mathlib.Decide.{ℕ-discrete}
 use mathlib.Core.Path.{_≡_, refl, sym, _∙_, ap, subst}
 use mathlib.Core.Logic.{_⊎_, inl, inr}
-use mathlib.Core.Bool.{true, false, _||_, true≢false, _&&_}
+use mathlib.Core.Bool.{true, false, _||_, true≢false}
 use mathlib.Core.List.{List, [], map}
 use lib.ListN.{length}
 use lib.Dec.{eqb}
 use borrow.Author.Tests.{eqb-true, eqb-false, eq-eqb, ne-eqb}
-use Rattle.lists.specs.Members.{_∈_, Some, Apart}
-use Rattle.lists.specs.Lists.{any, filter}
-use Rattle.lists.proofs.Tests.{by-cases, by-test, by-either, no-clash, and-true, true-and, true-or, none-each, filter-filter, member-some}
+use Rattle.lists.specs.Members.{_∈_, Some}
+use Rattle.lists.specs.Lists.{any}
+use Rattle.lists.proofs.Tests.{by-cases, by-either, true-or, none-each, member-some}
 use Rattle.lists.proofs.Places.{in-places}
-use Rattle.lists.proofs.Apart.{apart-narrower, apart-changed}
 use Rattle.rules.specs.declared.Enlistment.{Enlistment}
 use Rattle.rules.specs.declared.Table.{Table}
 use Rattle.rules.specs.declared.TxId.{TxId}
@@ -34,34 +33,37 @@ use Rattle.rules.specs.declared.FollowUp.the-variants as then
 use Rattle.rules.specs.Kinds as kind
 use Rattle.rules.specs.TransactionState as transaction
 use Rattle.rules.specs.EnlistmentState as enlistment
-use Rattle.rules.specs.Sizes.{identifierSize, largestNumber}
+use Rattle.rules.specs.Sizes.{identifierSize}
 use Rattle.rules.specs.Identifiers.{Id}
-use Rattle.rules.specs.Table.{isHeld, heldBy, onHeld, noTransaction, transactionAt, stateAt, held, numbered, isNumbered, isPhaseZero, durableKind, isDurable, isIn, inState, freed, onNumber, changeHeld, changeNumber, placeNamed}
-use Rattle.rules.specs.Sound.{Sound, In, Durable, PhaseZero, isOpen, openPlaces}
+use Rattle.rules.specs.Table.{noTransaction, transactionAt, stateAt, held, numbered, isNumbered, isPhaseZero, durableKind, isDurable, isIn, inState, freed, onNumber, changeHeld, changeNumber, placeNamed}
+use Rattle.rules.specs.Sound.{Sound, In, Durable, PhaseZero, isOpen, openPlaces, Held}
 use Rattle.rules.specs.Log.{forgetSize}
 use Rattle.rules.specs.Signals.{toApp}
 use Rattle.rules.specs.Events.{quietly, toVote, toReply, toLost, reactionOf, follow, react}
 use Rattle.rules.specs.Refusals.{isRefused}
-use Rattle.rules.proofs.Frames.{of-held, held-came, held-own, held-shorter, named-is, named-other, named-place, not-zero, Stands, stands-place}
+use Rattle.rules.proofs.Frames.{of-held, held-came, held-own, named-is, named-place, not-zero, Stands, stands-place}
 use Rattle.safety.specs.World.{Note, ownerOf, told, noteOf, messageOf, subjectOf}
 use Rattle.safety.specs.Host.{Prepares, Closes}
 use Rattle.safety.specs.Demand3.{Votes, Yes}
 use Rattle.safety.proofs.Alone as alone
 use Rattle.safety.proofs.Alone.{Story, Hopes, Waits, Is, Unasked, Preparing, NoDurable, durable-any, any-durable}
 use Rattle.safety.proofs.Move.{Calm, calm-note, nothing-calm, NotEnlisted, VoteOf, Doomed, from-early, from-voting, from-single, to-out, Move, gather, vote-on, abort, replied, told-on}
-use Rattle.safety.proofs.View.{viewOf, look, view-in, view-changes, view-held-other, state-held, stands-held}
+use Rattle.safety.proofs.View.{viewOf, look, view-in, view-changes, state-held, stands-held, held-other}
 use Rattle.safety.proofs.Given.{owner-held, Row, in-active, in-zero, in-voting, in-single, in-commit, in-abort, Named}
 use Rattle.safety.proofs.Messages.{notCommitted, notAborted, only-nothing, only-one, Owned, addressed-nothing, none-committed, none-aborted, quiet}
 use Rattle.safety.proofs.Own.{Own, Touched, unlogged, own-abort, Voted, own-decide, own-end-aborting, own-end-committing, own-start, own-end-saying}
-use Rattle.rules.proofs.Kept.{SameKey, key-same, key-either, true-live, by-held, sound-kept}
+use Rattle.rules.proofs.Kept.{SameKey, key-same, key-either, true-live, sound-kept, keeping-key}
 use Rattle.rules.proofs.Put.{member-held}
 use Rattle.rules.proofs.Preserved.{used-fits}
 use Rattle.rules.proofs.Parts.{id-length}
+use Rattle.rules.proofs.Only.{Keeps, frees, kept-held}
+use Rattle.rules.proofs.Phases.{goes-to}
+use Rattle.rules.proofs.Reacting.{on-number}
 
 -- ── the state of the transaction, by that of its enlistment ─────────────────────────────────────────────────────
 
 module _ (s : ℕ) (x : Enlistment) where
-  pub of-active : Row s x → In enlistment.active x → (s ≡ transaction.active) ⊎ (s ≡ transaction.phaseZero)
+  of-active : Row s x → In enlistment.active x → (s ≡ transaction.active) ⊎ (s ≡ transaction.phaseZero)
   of-active (in-active q w) i = q
   of-active (in-zero q z w) i = absurd (omega arith)
   of-active (in-voting q w) i = absurd (by-either (λ y. omega arith) (λ y. by-either (λ v. omega arith) (λ v. omega arith) y) w)
@@ -69,7 +71,7 @@ module _ (s : ℕ) (x : Enlistment) where
   of-active (in-commit q w) i = absurd (by-either (λ y. omega arith) (λ y. by-either (λ v. omega arith) (λ v. omega arith) y) w)
   of-active (in-abort q w) i = absurd (by-either (λ y. omega arith) (λ y. omega arith) w)
 
-  pub of-zero : Row s x → In enlistment.zero x → (s ≡ transaction.phaseZero) × PhaseZero x
+  of-zero : Row s x → In enlistment.zero x → (s ≡ transaction.phaseZero) × PhaseZero x
   of-zero (in-active q w) i = absurd (omega arith)
   of-zero (in-zero q z w) i = (q, z)
   of-zero (in-voting q w) i = absurd (by-either (λ y. omega arith) (λ y. by-either (λ v. omega arith) (λ v. omega arith) y) w)
@@ -77,7 +79,7 @@ module _ (s : ℕ) (x : Enlistment) where
   of-zero (in-commit q w) i = absurd (by-either (λ y. omega arith) (λ y. by-either (λ v. omega arith) (λ v. omega arith) y) w)
   of-zero (in-abort q w) i = absurd (by-either (λ y. omega arith) (λ y. omega arith) w)
 
-  pub of-voting : Row s x → In enlistment.preparing x ⊎ In enlistment.prepared x → s ≡ transaction.phaseOne
+  of-voting : Row s x → In enlistment.preparing x ⊎ In enlistment.prepared x → s ≡ transaction.phaseOne
   of-voting (in-active q w) i = absurd (by-either (λ y. omega arith) (λ y. omega arith) i)
   of-voting (in-zero q z w) i = absurd (by-either (λ y. omega arith) (λ y. omega arith) i)
   of-voting (in-voting q w) i = q
@@ -88,7 +90,7 @@ module _ (s : ℕ) (x : Enlistment) where
   of-voting (in-abort q (inl w)) i = absurd (by-either (λ y. omega arith) (λ y. omega arith) i)
   of-voting (in-abort q (inr w)) i = absurd (by-either (λ y. omega arith) (λ y. omega arith) i)
 
-  pub of-single : Row s x → In enlistment.onePhase x → s ≡ transaction.singlePhase
+  of-single : Row s x → In enlistment.onePhase x → s ≡ transaction.singlePhase
   of-single (in-active q w) i = absurd (omega arith)
   of-single (in-zero q z w) i = absurd (omega arith)
   of-single (in-voting q w) i = absurd (by-either (λ y. omega arith) (λ y. by-either (λ v. omega arith) (λ v. omega arith) y) w)
@@ -107,7 +109,7 @@ module _ (s : ℕ) (x : Enlistment) where
   of-commit (in-abort q (inl w)) i = absurd (by-either (λ y. omega arith) (λ y. omega arith) i)
   of-commit (in-abort q (inr w)) i = absurd (by-either (λ y. omega arith) (λ y. omega arith) i)
 
-  pub of-abort : Row s x → In enlistment.toldAbort x → s ≡ transaction.aborting
+  of-abort : Row s x → In enlistment.toldAbort x → s ≡ transaction.aborting
   of-abort (in-active q w) i = absurd (omega arith)
   of-abort (in-zero q z w) i = absurd (omega arith)
   of-abort (in-voting q w) i = absurd (by-either (λ y. omega arith) (λ y. by-either (λ v. omega arith) (λ v. omega arith) y) w)
@@ -124,26 +126,12 @@ module _ (tb : Table) (s : Sound tb) (t : Id) (p : ℕ) (at : Stands t p tb) whe
   some-place : p ≡ 0 → ⊥
   some-place = not-zero (named-place t p tb (at .here))
 
-  pub held-sized : {x : Enlistment} → x ∈ held p tb → (length (x .rm .0) ≡ identifierSize) × (x .number ≤ largestNumber)
-  held-sized {x} m = (s .manager-identifiers x (of-held p tb m .0) (member-held p tb some-place m) .0, s .numbers x (of-held p tb m .0) (member-held p tb some-place m) .1)
-
   -- who is held votes, but for P
   pub held-votes : {x : Enlistment} → x ∈ held p tb → isPhaseZero x ≡ false → Votes (x .kind)
   held-votes {x} m n = by-either (λ q. absurd (eqb-false (x .kind) kind.phaseZero n q)) (λ q. q) (s .kinds x (of-held p tb m .0) (member-held p tb some-place m) .0)
 
-  pub own-id-size : length t ≡ identifierSize
+  own-id-size : length t ≡ identifierSize
   own-id-size = ap length (sym (named-is t (transactionAt p tb) (at .here) .1)) ∙ id-length p tb (sound-kept s) live
-
-  numbers-apart : Apart (λ x y. x .number ≡ y .number) (held p tb)
-  unfolding held
-  numbers-apart = apart-narrower isHeld (heldBy p) (by-held p some-place) (λ x y a b r. r) (tb .enlistments) (s .numbers-differ)
-
-  managers-apart : Apart (λ x y. x .rm .0 ≡ y .rm .0) (filter isDurable (held p tb))
-  unfolding held
-  managers-apart = rw (filter-filter isDurable (heldBy p) (tb .enlistments)) (apart-narrower (λ x. isHeld x && isDurable x) (λ x. heldBy p x && isDurable x)
-      (λ x h. and-true (by-held p some-place x (true-and (heldBy p x) (isDurable x) h .0)) (true-and (heldBy p x) (isDurable x) h .1))
-      (λ x y a b r. (eqb-true (x .holder) p (true-and (heldBy p x) (isDurable x) a .0) ∙ sym (eqb-true (y .holder) p (true-and (heldBy p y) (isDurable y) b .0)), r))
-      (tb .enlistments) (rw (filter-filter isDurable isHeld (tb .enlistments)) at (s .managers-differ)))
 
   pub untouched : Touched t p tb tb
   untouched = record {
@@ -151,17 +139,14 @@ module _ (tb : Table) (s : Sound tb) (t : Id) (p : ℕ) (at : Stands t p tb) whe
     capacity = refl;
     stands = at;
     other-view = λ u d. refl;
-    sized = λ x m. held-sized m;
-    few = s .few p live;
+    kept = sound-kept s;
     owned = λ x m. inr (owner-held tb s t p at m .1);
     before = at;
     came = λ x m. record { it = x; there = m; holds = (refl, refl) };
-    numbers-apart = numbers-apart;
-    managers-apart = managers-apart;
   }
 
   -- where it is open, there is room for its forget record
-  pub room-open : (log : List ℕ) → length log ≡ tb .capacity → stateAt p tb ≡ transaction.committing → Some Durable (held p tb) → tb .used + forgetSize ≤ length log
+  room-open : (log : List ℕ) → length log ≡ tb .capacity → stateAt p tb ≡ transaction.committing → Some Durable (held p tb) → tb .used + forgetSize ≤ length log
   unfolding openPlaces
   room-open log full state d = rw full (omega (arith, s .room, member-some (openPlaces tb) (in-places (λ q x. isOpen (x .state) (held q tb)) noTransaction (tb .transactions) (named-place t p tb (at .here)) is-open)))
     where
@@ -170,16 +155,6 @@ module _ (tb : Table) (s : Sound tb) (t : Id) (p : ℕ) (at : Stands t p tb) whe
 
 -- ── one enlistment of the transaction changes ───────────────────────────────────────────────────────────────────
 
--- a change keeps what an enlistment is, or empties the place
-abbrev Mild : (Enlistment → Enlistment) → Type 0
-Mild f = (x : Enlistment) → ((f x .holder ≡ x .holder) × (f x .rm ≡ x .rm) × (f x .number ≡ x .number) × (f x .kind ≡ x .kind)) ⊎ (f x .holder ≡ 0)
-
-state-mild : (k : ℕ) → Mild (inState k)
-state-mild k x = inl (refl, refl, refl, refl)
-
-freed-mild : Mild freed
-freed-mild x = inr refl
-
 module _ (tb : Table) (log : List ℕ) (n : ℕ) (s : Sound tb) (full : length log ≡ tb .capacity) (named : Named tb n) (x : TxId) (y : RmId) where
   abbrev pub t : Id
   t = ownerOf n tb
@@ -187,7 +162,7 @@ module _ (tb : Table) (log : List ℕ) (n : ℕ) (s : Sound tb) (full : length l
   abbrev pub p : ℕ
   p = numbered n tb .holder
 
-  abbrev pub me : Enlistment
+  abbrev me : Enlistment
   me = numbered n tb
 
   abbrev hs : List Enlistment
@@ -199,76 +174,37 @@ module _ (tb : Table) (log : List ℕ) (n : ℕ) (s : Sound tb) (full : length l
   abbrev changed : (Enlistment → Enlistment) → Table
   changed f = changeNumber p n f tb
 
-  mild-on : (f : Enlistment → Enlistment) → Mild f → Mild (onNumber n f)
-  mild-on f mild e = by-cases (λ (w : Enlistment). ((w .holder ≡ e .holder) × (w .rm ≡ e .rm) × (w .number ≡ e .number) × (w .kind ≡ e .kind)) ⊎ (w .holder ≡ 0)) (isNumbered n e) (f e) e (λ _. mild e) (λ _. inl (refl, refl, refl, refl))
+  somewhere : p ≡ 0 → ⊥
+  somewhere = some-place tb s t p (named .stands)
 
   -- what is held was held, as the same
   abbrev Was : Enlistment → Type 0
-  Was w = Some (λ e. (w .rm ≡ e .rm) × (w .number ≡ e .number) × (w .kind ≡ e .kind)) hs
+  Was w = Some (λ e. SameKey e w) hs
 
-  was : (f : Enlistment → Enlistment) → Mild f → {w : Enlistment} → w ∈ held p (changed f) → Was w
-  was f mild {w} m = by-either
-      (λ q. record { it = c .it; there = c .there; holds = (ap (λ (e : Enlistment). e .rm) (c .holds) ∙ q .1, ap (λ (e : Enlistment). e .number) (c .holds) ∙ q .2, ap (λ (e : Enlistment). e .kind) (c .holds) ∙ q .3) })
-      (λ q. absurd (not-zero (named-place t p tb (named .stands .here)) (sym (of-held p (changed f) m .1) ∙ ap (λ (e : Enlistment). e .holder) (c .holds) ∙ q)))
-      (mild-on f mild (c .it))
+  was : (f : Enlistment → Enlistment) → Keeps f → {w : Enlistment} → w ∈ held p (changed f) → Was w
+  was f keeps {w} m = record { it = c .it; there = c .there; holds = subst (SameKey (c .it)) (sym (c .holds)) (keeping-key (on-number n keeps (c .it) (member-held p tb somewhere (c .there))) (subst Held (c .holds) (member-held p (changed f) somewhere m))) }
     where
       c : Some (λ e. w ≡ onNumber n f e) hs
       c = held-came p (onNumber n f) tb m
 
-  -- what it holds afterwards it held, as the same
-  kept-here : (f : Enlistment → Enlistment) → Mild f → (e : Enlistment) → heldBy p (onHeld p (onNumber n f) e) ≡ true
-      → (e .holder ≡ p) × (onHeld p (onNumber n f) e .rm ≡ e .rm) × (onHeld p (onNumber n f) e .number ≡ e .number) × (onHeld p (onNumber n f) e .kind ≡ e .kind)
-  kept-here f mild e h = by-test (heldBy p e)
-      (λ b. by-either
-      (λ q. rw b (eqb-true (e .holder) p b, q .1, q .2, q .3))
-      (λ q. absurd (not-zero (named-place t p tb (named .stands .here)) (sym (eqb-true (onNumber n f e .holder) p (rw b at h)) ∙ q)))
-      (mild-on f mild e))
-      (λ b. no-clash (heldBy p e) (rw b at h) b)
-
-  numbers-apart-after : (f : Enlistment → Enlistment) → Mild f → Apart (λ a b. a .number ≡ b .number) (held p (changed f))
-  unfolding held changeHeld
-  numbers-apart-after f mild = apart-changed isHeld (heldBy p) (onHeld p (onNumber n f))
-      (λ e h. by-held p (some-place tb s t p (named .stands)) e (eq-eqb (e .holder) p (kept-here f mild e h .0)))
-      (λ a b h k r. sym (kept-here f mild a h .2) ∙ r ∙ kept-here f mild b k .2)
-      (tb .enlistments) (s .numbers-differ)
-
-  managers-apart-after : (f : Enlistment → Enlistment) → Mild f → Apart (λ a b. a .rm .0 ≡ b .rm .0) (filter isDurable (held p (changed f)))
-  unfolding held changeHeld
-  managers-apart-after f mild = rw (filter-filter isDurable (heldBy p) (map g (tb .enlistments))) (apart-changed (λ e. isHeld e && isDurable e) (λ e. heldBy p e && isDurable e) g
-      (λ e h. and-true (by-held p (some-place tb s t p (named .stands)) e (eq-eqb (e .holder) p (k e h .0))) (ap (λ k. eqb k kind.durable) (sym (k e h .3)) ∙ true-and (heldBy p (g e)) (isDurable (g e)) h .1))
-      (λ a b h i r. (k a h .0 ∙ sym (k b i .0), sym (ap (λ (r : RmId). r .0) (k a h .1)) ∙ r ∙ ap (λ (r : RmId). r .0) (k b i .1)))
-      (tb .enlistments) (rw (filter-filter isDurable isHeld (tb .enlistments)) at (s .managers-differ)))
-    where
-      g : Enlistment → Enlistment
-      g = onHeld p (onNumber n f)
-
-      k : (e : Enlistment) → (heldBy p (g e) && isDurable (g e)) ≡ true → (e .holder ≡ p) × (g e .rm ≡ e .rm) × (g e .number ≡ e .number) × (g e .kind ≡ e .kind)
-      k e h = kept-here f mild e (true-and (heldBy p (g e)) (isDurable (g e)) h .0)
-
-  touched : (f : Enlistment → Enlistment) → Mild f → Touched t p tb (changed f)
+  touched : (f : Enlistment → Enlistment) → Keeps f → Touched t p tb (changed f)
   unfolding changeHeld
-  touched f mild = record {
+  touched f keeps = record {
     used = refl;
     capacity = refl;
     stands = stands-held t p p (onNumber n f) tb (named .stands);
-    other-view = λ u d. view-held-other u p (onNumber n f) tb (λ e. by-either (λ q. inl (q .0)) inr (mild-on f mild e)) (named-other t u (transactionAt p tb) (named .stands .here) d);
-    sized = λ w m. sized w (was f mild m);
-    few = omega (arith, held-shorter p (onNumber n f) tb, s .few p (live tb s t p (named .stands)));
-    owned = λ w m. owned w (was f mild m);
+    other-view = λ u d. held-other t p tb (named .stands) (onNumber n f) u (on-number n keeps) d;
+    kept = kept-held p (onNumber n f) tb somewhere (on-number n keeps) (sound-kept s);
+    owned = λ w m. owned w (was f keeps m);
     before = named .stands;
-    came = λ w m. came w (was f mild m);
-    numbers-apart = numbers-apart-after f mild;
-    managers-apart = managers-apart-after f mild;
+    came = λ w m. came w (was f keeps m);
   }
     where
-      sized : (w : Enlistment) → Was w → (length (w .rm .0) ≡ identifierSize) × (w .number ≤ largestNumber)
-      sized w q = (ap (λ (r : RmId). length (r .0)) (q .holds .0) ∙ held-sized tb s t p (named .stands) (q .there) .0, rw (q .holds .1) (held-sized tb s t p (named .stands) (q .there) .1))
-
       came : (w : Enlistment) → Was w → Some (λ e. (w .rm .0 ≡ e .rm .0) × (w .number ≡ e .number)) hs
-      came w q = record { it = q .it; there = q .there; holds = (ap (λ (r : RmId). r .0) (q .holds .0), q .holds .1) }
+      came w q = record { it = q .it; there = q .there; holds = (ap (λ (r : RmId). r .0) (q .holds .rm), q .holds .number) }
 
       owned : (w : Enlistment) → Was w → Owned tb t (w .number)
-      owned w q = inr (rw (q .holds .1) (owner-held tb s t p (named .stands) (q .there) .1))
+      owned w q = inr (rw (q .holds .number) (owner-held tb s t p (named .stands) (q .there) .1))
 
   -- another number is left alone
   left-alone : (f : Enlistment → Enlistment) (e : Enlistment) → (e .number ≡ n → ⊥) → onNumber n f e ≡ e
@@ -320,26 +256,26 @@ module _ (tb : Table) (log : List ℕ) (n : ℕ) (s : Sound tb) (full : length l
         go (yes q) = let i : Is m r k me = rw (named .only (h .there) (h .holds .0 .0 ∙ q)) (h .holds .0) in inl (v, rw (q, i .1, i .2) refl, yes-vote)
         go (no q) = inr (keep-others (Preparing m r k) f (λ w. q (sym (w .0 .0) ∙ named .number)) h)
 
-    abbrev HasVoted : (f : Enlistment → Enlistment) → Mild f → Type 0
-    HasVoted f mild = Voted tb this-event log t p (changed f) (touched f mild) refl hs (noteOf tb this-event)
+    abbrev HasVoted : (f : Enlistment → Enlistment) → Keeps f → Type 0
+    HasVoted f keeps = Voted tb this-event log t p (changed f) (touched f keeps) refl hs (noteOf tb this-event)
 
     -- not the last vote
-    vote-more : (f : Enlistment → Enlistment) (mild : Mild f) → HasVoted f mild → Own tb this-event log t (quietly (changed f) log)
-    vote-more f mild w = unlogged tb this-event log t p (changed f) (touched f mild) refl (changed f) [] (addressed-nothing tb this-event) refl (λ u d. refl)
+    vote-more : (f : Enlistment → Enlistment) (keeps : Keeps f) → HasVoted f keeps → Own tb this-event log t (quietly (changed f) log)
+    vote-more f keeps w = unlogged tb this-event log t p (changed f) (touched f keeps) refl (changed f) [] (addressed-nothing tb this-event) refl (λ u d. refl)
         (λ h made l a. rw (view-in t p tb here transaction.phaseOne voting-state, view-after f transaction.phaseOne voting-state)
         (vote-on refl (quiet t tb this-event [] (only-nothing notCommitted) (only-nothing notAborted)) (w .calm) (w .preparing) (w .hopes) (w .prepares)))
 
-    vote-decides : (f : Enlistment → Enlistment) (mild : Mild f) → HasVoted f mild → Own tb this-event log t (follow then.Decide p (changed f) log)
+    vote-decides : (f : Enlistment → Enlistment) (keeps : Keeps f) → HasVoted f keeps → Own tb this-event log t (follow then.Decide p (changed f) log)
     unfolding follow
-    vote-decides f mild w = by-cases (Own tb this-event log t) (any (isIn enlistment.preparing) (held p (changed f))) _ _
-        (λ _. vote-more f mild w)
-        (λ q. own-decide tb this-event log t p (changed f) (touched f mild) refl hs (view-in t p tb here transaction.phaseOne voting-state) (own-id-size tb s t p (named .stands)) w q
-        (full ∙ sym (touched f mild .capacity)) (rw (touched f mild .used, touched f mild .capacity) (used-fits s))
+    vote-decides f keeps w = by-cases (Own tb this-event log t) (any (isIn enlistment.preparing) (held p (changed f))) _ _
+        (λ _. vote-more f keeps w)
+        (λ q. own-decide tb this-event log t p (changed f) (touched f keeps) refl hs (view-in t p tb here transaction.phaseOne voting-state) (own-id-size tb s t p (named .stands)) w q
+        (full ∙ sym (touched f keeps .capacity)) (rw (touched f keeps .used, touched f keeps .capacity) (used-fits s))
         (λ c. omega (arith, c, state-after f transaction.phaseOne voting-state)))
 
   own-vote : (v : Vote) → In enlistment.preparing me → Own tb (event (act.Vote n v)) log t (react (toVote v) p n tb log)
   unfolding react follow told
-  own-vote vote.Prepared state = vote-decides vote.Prepared state (inState enlistment.prepared) (state-mild enlistment.prepared) (record {
+  own-vote vote.Prepared state = vote-decides vote.Prepared state (inState enlistment.prepared) (goes-to enlistment.prepared) (record {
     calm = vote-calm vote.Prepared state;
     preparing = voted-preparing vote.Prepared state (inState enlistment.prepared) (inl refl);
     hopes = λ r h. keep-others (Hopes r) (inState enlistment.prepared) (not-hoping vote.Prepared state r) h;
@@ -351,7 +287,7 @@ module _ (tb : Table) (log : List ℕ) (n : ℕ) (s : Sound tb) (full : length l
 
       rm-of : (r : Id) → Prepares t r (Note.voted t n (me .rm .0) (me .kind) vote.Prepared) → me .rm .0 ≡ r
       rm-of r (m, q) = cc
-  own-vote vote.ReadOnly state = vote-decides vote.ReadOnly state freed freed-mild (record {
+  own-vote vote.ReadOnly state = vote-decides vote.ReadOnly state freed frees (record {
     calm = vote-calm vote.ReadOnly state;
     preparing = voted-preparing vote.ReadOnly state freed (inr refl);
     hopes = λ r h. keep-others (Hopes r) freed (not-hoping vote.ReadOnly state r) h;
@@ -360,7 +296,7 @@ module _ (tb : Table) (log : List ℕ) (n : ℕ) (s : Sound tb) (full : length l
     where
       other : (r : Id) → Prepares t r (Note.voted t n (me .rm .0) (me .kind) vote.ReadOnly) → ⊥
       other r (m, q) = let z : _≡_ {A = ℕ} 0 1 = cc in omega arith
-  own-vote vote.Aborted state = own-abort tb (event (act.Vote n vote.Aborted)) log t p (changed (inState enlistment.done)) (touched (inState enlistment.done) (state-mild enlistment.done)) refl (rw (view-in t p tb here transaction.phaseOne (voting-state vote.Aborted state)) from-voting)
+  own-vote vote.Aborted state = own-abort tb (event (act.Vote n vote.Aborted)) log t p (changed (inState enlistment.done)) (touched (inState enlistment.done) (goes-to enlistment.done)) refl (rw (view-in t p tb here transaction.phaseOne (voting-state vote.Aborted state)) from-voting)
 
   -- ── after the decision ────────────────────────────────────────────────────────────────────────────────────────
 
@@ -396,7 +332,7 @@ module _ (tb : Table) (log : List ℕ) (n : ℕ) (s : Sound tb) (full : length l
 
   -- its forget record fits, if it is open still
   room-after : (k : ℕ) → stateAt p tb ≡ transaction.committing → any isDurable (held p (changed (inState k))) ≡ true → changed (inState k) .used + forgetSize ≤ length log
-  room-after k state d = rw (touched (inState k) (state-mild k) .used) (room-open tb s t p (named .stands) log full state (durable-came k (c .there) (c .holds)))
+  room-after k state d = rw (touched (inState k) (goes-to k) .used) (room-open tb s t p (named .stands) log full state (durable-came k (c .there) (c .holds)))
     where
       c : Some Durable (held p (changed (inState k)))
       c = any-durable (held p (changed (inState k))) d
@@ -405,7 +341,7 @@ module _ (tb : Table) (log : List ℕ) (n : ℕ) (s : Sound tb) (full : length l
     -- it is Done
     done-committing : (Durable me → Closes t (me .rm .0) (noteOf tb (event a))) → Own tb (event a) log t (follow then.End p (changed (inState enlistment.done)) log)
     unfolding follow
-    done-committing closes = own-end-committing tb (event a) log t p (changed (inState enlistment.done)) (touched (inState enlistment.done) (state-mild enlistment.done)) about hs
+    done-committing closes = own-end-committing tb (event a) log t p (changed (inState enlistment.done)) (touched (inState enlistment.done) (goes-to enlistment.done)) about hs
         (view-in t p tb here transaction.committing state) (state-after (inState enlistment.done) transaction.committing state)
         (record {
           calm = calm;
@@ -418,7 +354,7 @@ module _ (tb : Table) (log : List ℕ) (n : ℕ) (s : Sound tb) (full : length l
 
   done-aborting : (a : Act) → subjectOf tb (event a) ≡ t → stateAt p tb ≡ transaction.aborting → Own tb (event a) log t (follow then.End p (changed (inState enlistment.done)) log)
   unfolding follow
-  done-aborting a about state = own-end-aborting tb (event a) log t p (changed (inState enlistment.done)) (touched (inState enlistment.done) (state-mild enlistment.done)) about
+  done-aborting a about state = own-end-aborting tb (event a) log t p (changed (inState enlistment.done)) (touched (inState enlistment.done) (goes-to enlistment.done)) about
       (view-in t p tb here transaction.aborting state) (state-after (inState enlistment.done) transaction.aborting state) (view-after (inState enlistment.done) transaction.aborting state)
 
   own-ack : In enlistment.toldCommit me ⊎ In enlistment.toldAbort me → Own tb (event (act.Ack n)) log t (react (reaction.Becomes enlistment.done then.End) p n tb log)
@@ -432,7 +368,7 @@ module _ (tb : Table) (log : List ℕ) (n : ℕ) (s : Sound tb) (full : length l
       → ((h : List Note) (l : Story) → Move t h (noteOf tb (event a)) (map (messageOf tb (event a)) (toApp b)) l l (alone.single hs) alone.out)
       → Own tb (event a) log t (follow (then.EndWith b) p (changed freed) log)
   unfolding follow
-  single-ends a about b state moves = own-end-saying tb (event a) log t p (changed freed) (touched freed freed-mild) about b (λ q. omega (arith, q, state-after freed transaction.singlePhase four))
+  single-ends a about b state moves = own-end-saying tb (event a) log t p (changed freed) (touched freed frees) about b (λ q. omega (arith, q, state-after freed transaction.singlePhase four))
       (λ h made l g. rw (view-in t p tb here transaction.singlePhase four) (moves h l))
     where
       four : stateAt p tb ≡ transaction.singlePhase
@@ -452,10 +388,10 @@ module _ (tb : Table) (log : List ℕ) (n : ℕ) (s : Sound tb) (full : length l
   own-zero-done : In enlistment.zero me → Own tb (event (act.ZeroDone n)) log t (react (reaction.Freed then.StartPhaseOne) p n tb log)
   unfolding react follow told
   own-zero-done state = by-cases (Own tb this-event log t) (any isPhaseZero (held p (changed freed))) _ _
-      (λ _. unlogged tb this-event log t p (changed freed) (touched freed freed-mild) refl (changed freed) [] (addressed-nothing tb this-event) refl (λ u d. refl)
+      (λ _. unlogged tb this-event log t p (changed freed) (touched freed frees) refl (changed freed) [] (addressed-nothing tb this-event) refl (λ u d. refl)
       (λ h made l g. rw (view-in t p tb here transaction.phaseZero (two .0), view-after freed transaction.phaseZero (two .0))
-      (gather refl (nothing-calm t .not-prepared) (quiet t tb this-event [] (only-nothing notCommitted) (only-nothing notAborted)) unasked (λ m r k q w. absurd (nothing-calm t .not-enlisted m r k q)) (λ e m. inl (same e (was freed freed-mild m))))))
-      (λ none. own-start tb this-event log t p (changed freed) (touched freed freed-mild) refl hs (view-in t p tb here transaction.phaseZero (two .0)) (nothing-calm t) unasked (λ e m. voting e (none-each isPhaseZero (held p (changed freed)) none e m) (was freed freed-mild m)) (λ c. omega (arith, c, state-after freed transaction.phaseZero (two .0))))
+      (gather refl (nothing-calm t .not-prepared) (quiet t tb this-event [] (only-nothing notCommitted) (only-nothing notAborted)) unasked (λ m r k q w. absurd (nothing-calm t .not-enlisted m r k q)) (λ e m. inl (same e (was freed frees m))))))
+      (λ none. own-start tb this-event log t p (changed freed) (touched freed frees) refl hs (view-in t p tb here transaction.phaseZero (two .0)) (nothing-calm t) unasked (λ e m. voting e (none-each isPhaseZero (held p (changed freed)) none e m) (was freed frees m)) (λ c. omega (arith, c, state-after freed transaction.phaseZero (two .0))))
     where
       this-event : Event
       this-event = event (act.ZeroDone n)
@@ -470,10 +406,10 @@ module _ (tb : Table) (log : List ℕ) (n : ℕ) (s : Sound tb) (full : length l
       unasked m r k h = keep-others (Unasked m r k) freed (λ q. no-vote (q .1)) h
 
       same : (e : Enlistment) → Was e → Some (Is (e .number) (e .rm .0) (e .kind)) hs
-      same e w = record { it = w .it; there = w .there; holds = (sym (w .holds .1), sym (ap (λ (r : RmId). r .0) (w .holds .0)), sym (w .holds .2)) }
+      same e w = record { it = w .it; there = w .there; holds = (sym (w .holds .number), sym (ap (λ (r : RmId). r .0) (w .holds .rm)), sym (w .holds .kind)) }
 
       voting : (e : Enlistment) → isPhaseZero e ≡ false → Was e → Some (Unasked (e .number) (e .rm .0) (e .kind)) hs
-      voting e q w = record { it = w .it; there = w .there; holds = (same e w .holds, held-votes tb s t p (named .stands) (w .there) (ap (λ k. eqb k kind.phaseZero) (sym (w .holds .2)) ∙ q)) }
+      voting e q w = record { it = w .it; there = w .there; holds = (same e w .holds, held-votes tb s t p (named .stands) (w .there) (ap (λ k. eqb k kind.phaseZero) (sym (w .holds .kind)) ∙ q)) }
 
   -- ── lost ──────────────────────────────────────────────────────────────────────────────────────────────────────
 
@@ -482,11 +418,11 @@ module _ (tb : Table) (log : List ℕ) (n : ℕ) (s : Sound tb) (full : length l
 
   lost-abort : Doomed t (viewOf t tb) → Own tb lost log t (react (reaction.Becomes enlistment.done then.Abort) p n tb log)
   unfolding react follow
-  lost-abort d = own-abort tb lost log t p (changed (inState enlistment.done)) (touched (inState enlistment.done) (state-mild enlistment.done)) refl d
+  lost-abort d = own-abort tb lost log t p (changed (inState enlistment.done)) (touched (inState enlistment.done) (goes-to enlistment.done)) refl d
 
   lost-prepared : In enlistment.prepared me → Own tb lost log t (react (reaction.Becomes enlistment.preparedLost then.Nothing) p n tb log)
   unfolding react follow told
-  lost-prepared state = unlogged tb lost log t p (changed (inState enlistment.preparedLost)) (touched (inState enlistment.preparedLost) (state-mild enlistment.preparedLost)) refl (changed (inState enlistment.preparedLost)) [] (addressed-nothing tb lost) refl (λ u d. refl)
+  lost-prepared state = unlogged tb lost log t p (changed (inState enlistment.preparedLost)) (touched (inState enlistment.preparedLost) (goes-to enlistment.preparedLost)) refl (changed (inState enlistment.preparedLost)) [] (addressed-nothing tb lost) refl (λ u d. refl)
       (λ h made l g. rw (view-in t p tb here transaction.phaseOne three, view-after (inState enlistment.preparedLost) transaction.phaseOne three)
       (vote-on refl (quiet t tb lost [] (only-nothing notCommitted) (only-nothing notAborted)) (nothing-calm t .not-enlisted)
       (λ m r k w. inr (keep-others (Preparing m r k) (inState enlistment.preparedLost) (λ q. omega (arith, state, q .1)) w))
@@ -503,7 +439,7 @@ module _ (tb : Table) (log : List ℕ) (n : ℕ) (s : Sound tb) (full : length l
 
   lost-told : In enlistment.toldCommit me → Own tb lost log t (react (reaction.Becomes enlistment.failedToNotify then.Nothing) p n tb log)
   unfolding react follow told
-  lost-told state = unlogged tb lost log t p (changed (inState enlistment.failedToNotify)) (touched (inState enlistment.failedToNotify) (state-mild enlistment.failedToNotify)) refl (changed (inState enlistment.failedToNotify)) [] (addressed-nothing tb lost) refl (λ u d. refl)
+  lost-told state = unlogged tb lost log t p (changed (inState enlistment.failedToNotify)) (touched (inState enlistment.failedToNotify) (goes-to enlistment.failedToNotify)) refl (changed (inState enlistment.failedToNotify)) [] (addressed-nothing tb lost) refl (λ u d. refl)
       (λ h made l g. rw (view-in t p tb here transaction.committing five, view-after (inState enlistment.failedToNotify) transaction.committing five)
       (told-on refl (nothing-calm t) (none-aborted t tb lost [] (only-nothing notAborted))
       (λ r w. inl (held-own (Waits r) (Waits r) p (onNumber n (inState enlistment.failedToNotify)) tb (λ e m q. by-cases (λ (v : Enlistment). Waits r v × (v .holder ≡ e .holder)) (isNumbered n e) (inState enlistment.failedToNotify e) e (λ _. ((q .0, q .1, inr refl), refl)) (λ _. (q, refl))) w))
@@ -557,7 +493,7 @@ module _ (tb : Table) (log : List ℕ) (n : ℕ) (s : Sound tb) (full : length l
       soon : (eqb k enlistment.active || eqb k enlistment.zero || eqb k enlistment.preparing) ≡ true → Doomed t (viewOf t tb)
       soon q = by-either (λ w. by-either (λ v. early-doomed (inl (eqb-true k enlistment.active v))) (λ v. early-doomed (inr (eqb-true k enlistment.zero v))) (true-or (eqb k enlistment.active) (eqb k enlistment.zero) w)) (λ w. voting-doomed (inl (eqb-true k enlistment.preparing w))) (true-or (eqb k enlistment.active || eqb k enlistment.zero) (eqb k enlistment.preparing) q)
 
-  abbrev pub ReactsTo : Act → Type 0
+  abbrev ReactsTo : Act → Type 0
   ReactsTo a = Reacts a (reactionOf (me .kind) (me .state) a)
 
   pub reacts-zero-done : ReactsTo (act.ZeroDone n)

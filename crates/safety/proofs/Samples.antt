@@ -19,7 +19,7 @@ use Rattle.safety.specs.Words.{enlist, enlistSingle, spare}
 use Rattle.safety.proofs.Played.{does, restarts, issued, record-of-7, commit-of-7, decided, decides, playing}
 
 -- a run reaches a world in which a message about 7 has left whose name is P
-abbrev pub Sends : (Name → Type 0) → Type 0
+abbrev Sends : (Name → Type 0) → Type 0
 Sends P = (w : World) × Run careful w × About (id 7) P (w .sent)
 
 sends : (P : Name → Type 0) {w : World} → Run careful w → (i : Issued) → i ∈ w .waiting → careful .leaves w i → (i .message .about ≡ id 7) × P (i .message .name) → Sends P

@@ -23,7 +23,7 @@ use mathlib.Core.Logic.{inl, inr}
 
 -- ── stories ─────────────────────────────────────────────────────────────────────────────────────────────────────
 
-abbrev pub onCommit : Story → List Entry → Story
+abbrev onCommit : Story → List Entry → Story
 onCommit none rs = open-with rs
 onCommit (open-with qs) rs = bad
 onCommit closed rs = bad

@@ -79,10 +79,10 @@ pub record Refines : Type 1 where
 module _ (R : Refines) where
   open Refines R using (sound, viewOf, storyOf, Formed, header, header-formed, story-nothing, story-prefix, refuses, accepts, needs-sound, zero-unsound, restart-refuses, restart-accepts)
 
-  abbrev pub BaseOf : World → (Id → Story) → Type 0
+  abbrev BaseOf : World → (Id → Story) → Type 0
   BaseOf w l = (t : Id) → Base t (storyOf t) (l t) (storyOf t (w .disk)) (w .notes) (w .waiting) (w .sent) (w .issued)
 
-  abbrev pub ShapeOf : World → Type 0
+  abbrev ShapeOf : World → Type 0
   ShapeOf w = (t : Id) → Shape t (viewOf t (w .table)) (storyOf t (usedPart (w .table) (w .log))) (w .notes) (w .waiting) (w .sent) (w .issued)
 
   -- the stored log is a part of something formed, from its start

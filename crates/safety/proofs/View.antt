@@ -3,7 +3,6 @@
 use Prim.Native.Nat.{ℕ, zero, suc}
 use native.Mathlib.Omega.{arith}
 use mathlib.Core.Path.{_≡_, refl, sym, _∙_, ap}
-use mathlib.Core.Logic.{inr}
 use mathlib.Core.Bool.{false}
 use mathlib.Core.List.{List}
 use lib.Dec.{eqb}
@@ -15,10 +14,10 @@ use Rattle.rules.specs.declared.Enlistment.{Enlistment}
 use Rattle.rules.specs.declared.Table.{Table}
 use Rattle.rules.specs.TransactionState as transaction
 use Rattle.rules.specs.Identifiers.{Id}
-use Rattle.rules.specs.Table.{noTransaction, isNamed, placeNamed, transactionAt, stateAt, held, inTransactionState, freed, ended, changeHeld, changeTransaction, goTo, emptied, useMore}
-use Rattle.rules.proofs.Frames.{Keeps, held-other, held-transaction, Stands, Absent, stands-place, absent-place, named-found, named-other, at-other, place-kept, state-goes, stands-goes, other-goes, absent-ended, same-place}
+use Rattle.rules.specs.Table.{noTransaction, isNamed, placeNamed, transactionAt, stateAt, held, inTransactionState, freed, changeHeld, goTo, emptied, useMore}
+use Rattle.rules.proofs.Frames.{held-transaction, Stands, Absent, stands-place, absent-place, named-found, named-other, state-goes, stands-goes, other-goes, absent-ended, same-place, not-zero, named-place, at-own}
 use Rattle.safety.proofs.Alone.{View, out, early, voting, single, committing, aborting}
-use Rattle.rules.proofs.Only.{Only}
+use Rattle.rules.proofs.Only.{Only, Keeps, only-held, only-then, only-transaction, only-emptied, at-emptied-place}
 
 abbrev pub look : ℕ → List Enlistment → View
 look zero hs = out
@@ -48,7 +47,7 @@ pub view-absent : (t : Id) (tb : Table) → Absent t tb → viewOf t tb ≡ out
 view-absent t tb a = view-in t 0 tb (absent-place t tb a) 0 (state-none tb)
 
 -- the same place, the same state and the same enlistments there
-pub view-same : (u : Id) (tb tb′ : Table) → placeNamed u tb′ ≡ placeNamed u tb
+view-same : (u : Id) (tb tb′ : Table) → placeNamed u tb′ ≡ placeNamed u tb
     → ((placeNamed u tb ≡ 0 → ⊥) → (stateAt (placeNamed u tb) tb′ ≡ stateAt (placeNamed u tb) tb) × (held (placeNamed u tb) tb′ ≡ held (placeNamed u tb) tb))
     → viewOf u tb′ ≡ viewOf u tb
 unfolding viewOf
@@ -66,22 +65,6 @@ view-only u p tb tb′ o b a = view-same u tb tb′ (same-place u tb tb′ (o .a
 
     elsewhere : (placeNamed u tb ≡ 0 → ⊥) → placeNamed u tb ≡ p → ⊥
     elsewhere n e = no-clash _ (ap (λ q. isNamed u (transactionAt q tb)) (sym e) ∙ named-found u tb n) b
-
-pub view-other : (u : Id) (p : ℕ) (f : Transaction → Transaction) (g : Enlistment → Enlistment) (tb : Table)
-    → Keeps g → isNamed u (transactionAt p tb) ≡ false → isNamed u (f (transactionAt p tb)) ≡ false
-    → viewOf u (changeTransaction p f (changeHeld p g tb)) ≡ viewOf u tb
-unfolding changeHeld
-view-other u p f g tb k b a = view-same u tb (changeTransaction p f (changeHeld p g tb)) (place-kept p f (changeHeld p g tb) u b a)
-    (λ n. (ap (λ (x : Transaction). x .state) (at-other p f (changeHeld p g tb) (placeNamed u tb) (elsewhere n)), held-transaction p (placeNamed u tb) f (changeHeld p g tb) ∙ held-other p (placeNamed u tb) g tb k (elsewhere n) n))
-  where
-    elsewhere : (placeNamed u tb ≡ 0 → ⊥) → placeNamed u tb ≡ p → ⊥
-    elsewhere n e = no-clash _ (ap (λ q. isNamed u (transactionAt q tb)) (sym e) ∙ named-found u tb n) b
-
--- nor is a change of enlistments alone
-pub view-held-other : (u : Id) (p : ℕ) (g : Enlistment → Enlistment) (tb : Table) → Keeps g → isNamed u (transactionAt p tb) ≡ false → viewOf u (changeHeld p g tb) ≡ viewOf u tb
-unfolding changeHeld
-view-held-other u p g tb k b = view-same u tb (changeHeld p g tb) refl
-    (λ n. (refl, held-other p (placeNamed u tb) g tb k (λ e. no-clash _ (ap (λ q. isNamed u (transactionAt q tb)) (sym e) ∙ named-found u tb n) b) n))
 
 pub view-more : (u : Id) (n : ℕ) (tb : Table) → viewOf u (useMore n tb) ≡ viewOf u tb
 unfolding viewOf useMore held
@@ -105,8 +88,20 @@ module _ (t : Id) (p : ℕ) (tb : Table) (s : Stands t p tb) where
       at : Stands t p (changeHeld p g tb)
       at = stands-held t p p g tb s
 
+  somewhere : p ≡ 0 → ⊥
+  somewhere = not-zero (named-place t p tb (s .here))
+
+  -- another one, whatever becomes of what t holds, of its state, and of it
+  pub held-other : (g : Enlistment → Enlistment) (u : Id) → Keeps g → (u ≡ t → ⊥) → viewOf u (changeHeld p g tb) ≡ viewOf u tb
+  held-other g u k d = view-only u p tb (changeHeld p g tb) (only-held p g tb somewhere k) (named-other t u (transactionAt p tb) (s .here) d)
+      (named-other t u (transactionAt p (changeHeld p g tb)) (stands-held t p p g tb s .here) d)
+
   pub goes-other : (n : ℕ) (g : Enlistment → Enlistment) (u : Id) → Keeps g → (u ≡ t → ⊥) → viewOf u (goTo p n (changeHeld p g tb)) ≡ viewOf u tb
-  goes-other n g u k d = view-other u p (inTransactionState n) g tb k (named-other t u (transactionAt p tb) (s .here) d) (other-goes t p n tb s u d)
+  goes-other n g u k d = view-only u p tb (goTo p n (changeHeld p g tb)) (only-then (only-held p g tb somewhere k) (only-transaction p (inTransactionState n) (changeHeld p g tb))) (named-other t u (transactionAt p tb) (s .here) d)
+      (ap (isNamed u) (at-own p (inTransactionState n) (changeHeld p g tb) (named-place t p (changeHeld p g tb) (stands-held t p p g tb s .here))) ∙ other-goes t p n (changeHeld p g tb) (stands-held t p p g tb s) u d)
+
+  pub ends-other : (u : Id) → (u ≡ t → ⊥) → viewOf u (emptied p tb) ≡ viewOf u tb
+  ends-other u d = view-only u p tb (emptied p tb) (only-emptied p tb somewhere) (named-other t u (transactionAt p tb) (s .here) d) (ap (isNamed u) (at-emptied-place p tb))
 
   pub view-ends : viewOf t (emptied p tb) ≡ out
   view-ends = view-absent t (emptied p tb) (absent-ended t p (changeHeld p freed tb) (stands-held t p p freed tb s .alone))
@@ -115,14 +110,8 @@ module _ (t : Id) (p : ℕ) (tb : Table) (s : Stands t p tb) where
   unfolding changeHeld
   view-changes g = view-stands t p (changeHeld p g tb) (stands-held t p p g tb s)
 
-pub freed-keeps : Keeps freed
-freed-keeps e = inr refl
-
-pub ends-other : (u : Id) (p : ℕ) (tb : Table) → isNamed u (transactionAt p tb) ≡ false → viewOf u (emptied p tb) ≡ viewOf u tb
-ends-other u p tb b = view-other u p ended freed tb freed-keeps b refl
-
 -- only Committing looks so
-pub looks-committing : (k : ℕ) (hs es : List Enlistment) → look k hs ≡ committing es → (k ≡ transaction.committing) × (hs ≡ es)
+looks-committing : (k : ℕ) (hs es : List Enlistment) → look k hs ≡ committing es → (k ≡ transaction.committing) × (hs ≡ es)
 looks-committing zero hs es q = let z : _≡_ {A = ℕ} 0 1 = cc in absurd (omega arith)
 looks-committing (suc zero) hs es q = let z : _≡_ {A = ℕ} 0 1 = cc in absurd (omega arith)
 looks-committing (suc (suc zero)) hs es q = let z : _≡_ {A = ℕ} 0 1 = cc in absurd (omega arith)
@@ -131,3 +120,13 @@ looks-committing (suc (suc (suc (suc zero)))) hs es q = let z : _≡_ {A = ℕ} 
 looks-committing (suc (suc (suc (suc (suc zero))))) hs es q = (refl, cc)
 looks-committing (suc (suc (suc (suc (suc (suc zero)))))) hs es q = let z : _≡_ {A = ℕ} 0 1 = cc in absurd (omega arith)
 looks-committing (suc (suc (suc (suc (suc (suc (suc k))))))) hs es q = let z : _≡_ {A = ℕ} 0 1 = cc in absurd (omega arith)
+
+-- a view of Committing, of whose enlistments P holds
+pub record Shows (P : List Enlistment → Type 0) (v : View) : Type 0 where
+  pub es : List Enlistment
+  pub is : v ≡ committing es
+  pub holds : P es
+
+pub shows-committing : (P : List Enlistment → Type 0) (t : Id) (tb : Table) → Shows P (viewOf t tb) → (stateAt (placeNamed t tb) tb ≡ transaction.committing) × P (held (placeNamed t tb) tb)
+unfolding viewOf
+shows-committing P t tb w = let q = looks-committing (stateAt (placeNamed t tb) tb) (held (placeNamed t tb) tb) (w .es) (w .is) in (q .0, rw (q .1) (w .holds))
