@@ -25,13 +25,13 @@ use Rattle.rules.specs.Log.{Entry, recordBytes, commitSize}
 use Rattle.rules.specs.Events.{append, entryOf, commitRecord, lacksRoom, committedOf, endCommitted, decideOf, startPhaseOne, zeroedOf, commitOf}
 use Rattle.rules.proofs.Frames.{of-held}
 use Rattle.rules.proofs.Kept.{Kept, stays, moves, live-some}
-use Rattle.rules.proofs.Only.{Keeps, each-changed, some-changed}
+use Rattle.rules.proofs.Only.{KeepsHeld, each-changed, some-changed}
 use Rattle.rules.proofs.Records.{entries-length}
 use Rattle.rules.proofs.Parts.{Part, id-length, end-part, moved-part, written-part, Abortable, abort-part}
 
 -- ── one state for all ───────────────────────────────────────────────────────────────────────────────────────────
 
-pub goes-to : (s : ℕ) → Keeps (inState s)
+pub goes-to : (s : ℕ) → KeepsHeld (inState s)
 goes-to s e h = moves h s refl
 
 held-in-list : (p s : ℕ) (es : List Enlistment) → filter (heldBy p) (map (onHeld p (inState s)) es) ≡ map (inState s) (filter (heldBy p) es)
@@ -74,7 +74,7 @@ module _ (p : ℕ) (tb : Table) (log : List ℕ) (k : Kept tb) (l : Live (transa
 
 -- ── Commit ──────────────────────────────────────────────────────────────────────────────────────────────────────
 
-zeroes : Keeps zeroedOf
+zeroes : KeepsHeld zeroedOf
 zeroes e h = by-test (isPhaseZero e) (λ t. rw t (moves h _ refl)) (λ t. rw t (stays refl))
 
 -- how an enlistment stands in Phase Zero
@@ -107,7 +107,7 @@ module _ (p : ℕ) (tb : Table) (log : List ℕ) (k : Kept tb) (l : Live (transa
 
 -- ── Decide ──────────────────────────────────────────────────────────────────────────────────────────────────────
 
-commits : Keeps committedOf
+commits : KeepsHeld committedOf
 unfolding committedOf
 commits e h = by-test (isIn enlistment.prepared e)
     (λ t. rw t (moves h _ refl))
