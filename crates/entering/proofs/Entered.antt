@@ -1,7 +1,7 @@
 -- The place that is found is the lowest empty one, so that an entry put there is the one that the definition puts.
 use Prim.Native.Nat.{ℕ}
-use mathlib.Core.Path.{_≡_, refl, sym, _∙_, ap}
-use mathlib.Core.Bool.{Bool, true, false, not}
+use mathlib.Core.Path.{_≡_, sym, _∙_, ap}
+use mathlib.Core.Bool.{Bool, Bool·not-not}
 use mathlib.Core.List.{List, map}
 use lib.Dec.{eqb}
 use Rattle.lists.specs.Lists.{none}
@@ -20,11 +20,7 @@ use Rattle.rules.specs.Events.{beginOf, newEnlistment, enlistOf}
 use Rattle.rows.specs.Memory.{transactionIn, enlistmentIn, tableIn}
 
 pub none-place : {A : Type 0} (f : A → Bool) (xs : List A) → none f xs ≡ eqb (placeOf f xs) 0
-none-place f xs = rw (any-place f xs) (twice _)
-  where
-    twice : (b : Bool) → not (not b) ≡ b
-    twice true = refl
-    twice false = refl
+none-place f xs = rw (any-place f xs) (Bool·not-not _)
 
 module _ (heads rows : List (List ℕ)) (capacity used : ℕ) (id : Id) (log : List ℕ) where
   abbrev before : Table
