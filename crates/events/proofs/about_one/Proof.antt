@@ -1,5 +1,4 @@
 -- The one that holds it is taken out, changed alone and put back.
-use Prim.Native.Nat.{_-_}
 use borrow.Author.Needs.{needs}
 use mathlib.Core.Path.{refl, sym, ap}
 use Rattle.rules.specs.Table.{numbered, held}
