@@ -8,7 +8,7 @@ use mathlib.Core.Bool.{Bool, true, false}
 use mathlib.Core.List.{List, [], _∷_}
 use lib.ListN.{length, drop}
 use Rattle.lists.specs.Lists.{any, differ}
-use Rattle.lists.proofs.Loops.{drop-done}
+use Rattle.lists.proofs.Loops.{drop-done, Left, left-next, left-stop}
 use Rattle.rules.specs.Identifiers.{Id, sameBytes}
 use Rattle.rules.specs.Restart.{sameEntryManager}
 use Rattle.rules.specs.Log.{Entry}
@@ -46,19 +46,6 @@ module _ (log : List ℕ) (p j : ℕ) {n : ℕ} (e : n ≡ entriesCount log p) w
 
 -- ── what is left says what the whole says ───────────────────────────────────────────────────────────────────────
 
-pub record Left {A B : Type 0} (g : List A → B) (l : List A) (whole : B) (i : ℕ) : Type 0 where
-  pub same : whole ≡ g (drop i l)
-
-module _ {A B : Type 0} {g : List A → B} {l : List A} {whole : B} {i : ℕ} (p : Left g l whole i) where
-  pub left-next : {g′ : List A → B} {x : A} → drop i l ≡ x ∷ drop (i + 1) l → g (x ∷ drop (i + 1) l) ≡ g′ (drop (i + 1) l) → Left g′ l whole (i + 1)
-  left-next n e = record { same = (rw n at (p .same)) ∙ e }
-
-  pub left-stop : {x : A} {r : B} → drop i l ≡ x ∷ drop (i + 1) l → g (x ∷ drop (i + 1) l) ≡ r → r ≡ whole
-  left-stop n e = sym ((rw n at (p .same)) ∙ e)
-
-  pub left-done : {r : B} → drop i l ≡ [] → g [] ≡ r → r ≡ whole
-  left-done n e = sym ((rw n at (p .same)) ∙ e)
-
 -- whether no two have one resource manager
 module _ {l : List Entry} {whole b : Bool} {x : Entry} {rm : Id} {i : ℕ} (p : Left (differ sameEntryManager) l whole i) (n : drop i l ≡ x ∷ drop (i + 1) l)
     (m : rm ≡ x .rm) (e : b ≡ any (λ y. sameBytes (y .rm) rm) (drop (i + 1) l)) where
@@ -69,20 +56,3 @@ module _ {l : List Entry} {whole b : Bool} {x : Entry} {rm : Id} {i : ℕ} (p : 
   pub differ-stop : b ≡ true → false ≡ whole
   unfolding differ
   differ-stop t = left-stop p n (rw (← m, sym e ∙ t))
-
--- whether any passes
-pub record Seen {A : Type 0} (f : A → Bool) (l : List A) (whole : Bool) (i : ℕ) : Type 0 where
-  pub same : whole ≡ any f (drop i l)
-
-module _ {A : Type 0} {f : A → Bool} {l : List A} {whole : Bool} {i : ℕ} (p : Seen f l whole i) where
-  pub seen-next : {b : Bool} {x : A} → drop i l ≡ x ∷ drop (i + 1) l → b ≡ f x → b ≡ false → Seen f l whole (i + 1)
-  unfolding any
-  seen-next n e t = record { same = rw (n, sym e ∙ t) at (p .same) }
-
-  pub seen-here : {b : Bool} {x : A} → drop i l ≡ x ∷ drop (i + 1) l → b ≡ f x → b ≡ true → true ≡ whole
-  unfolding any
-  seen-here n e t = sym (rw (n, sym e ∙ t) at (p .same))
-
-  pub seen-none : drop i l ≡ [] → false ≡ whole
-  unfolding any
-  seen-none n = sym (rw n at (p .same))

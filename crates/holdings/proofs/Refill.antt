@@ -7,7 +7,7 @@ use mathlib.Core.List.{List, [], _∷_, map}
 use lib.ListN.{length, getD, take, drop}
 use Rattle.lists.specs.Lists.{filter, count}
 use Rattle.lists.proofs.Tests.{by-test}
-use Rattle.lists.proofs.Loops.{drop-at}
+use Rattle.lists.proofs.Loops.{getD-mapped, drop-at}
 use Rattle.rules.specs.declared.Enlistment.{Enlistment}
 use Rattle.rules.specs.Table.{noEnlistment}
 use Rattle.holdings.specs.Within.{filled, refillFrom}
@@ -37,17 +37,6 @@ module _ (f : Enlistment → Bool) (empty : f noEnlistment ≡ false) where
   filter-filled zero (e ∷ es) h = absurd (omega arith)
   filter-filled (suc n) [] h = rw empty (filter-filled n [] (omega arith))
   filter-filled (suc n) (e ∷ es) h = ap (λ l. cond (f e) (e ∷ l) l) (filter-filled n es (omega arith))
-
--- what stands at an index that is there, whichever is given otherwise
-getD-map : (g : Enlistment → Enlistment) (hs : List Enlistment) (k : ℕ) → k < length hs → getD (map g hs) k noEnlistment ≡ g (getD hs k noEnlistment)
-getD-map g [] k h = absurd (omega arith)
-getD-map g (x ∷ hs) zero h = refl
-getD-map g (x ∷ hs) (suc k) h = getD-map g hs k (omega arith)
-
-pub drop-map : (g : Enlistment → Enlistment) (n : ℕ) (hs : List Enlistment) → drop n (map g hs) ≡ map g (drop n hs)
-drop-map g zero hs = refl
-drop-map g (suc n) [] = refl
-drop-map g (suc n) (x ∷ hs) = drop-map g n hs
 
 -- ── refilled ────────────────────────────────────────────────────────────────────────────────────────────────────
 
@@ -85,5 +74,5 @@ module _ (f : Enlistment → Bool) where
   unfolding refillFrom count
   map-refill g s k hs [] h = refl
   map-refill g s k hs (x ∷ xs) h = by-test (f x)
-      (λ t. rw t (λ i. sym (getD-map g hs k (omega (arith, rw t at h))) i ∷ map-refill g s (suc k) hs xs (omega (arith, rw t at h)) i))
+      (λ t. rw t (λ i. sym (getD-mapped g hs k noEnlistment noEnlistment (omega (arith, rw t at h))) i ∷ map-refill g s (suc k) hs xs (omega (arith, rw t at h)) i))
       (λ t. rw t (λ i. s x t i ∷ map-refill g s k hs xs (rw t at h) i))

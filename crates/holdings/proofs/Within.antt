@@ -1,5 +1,5 @@
 -- A table into which a transaction and what it holds are put shows of them what they show alone, and a change of them passes through.
-use Prim.Native.Nat.{ℕ, _+_, _≤_}
+use Prim.Native.Nat.{ℕ, _≤_}
 use native.Mathlib.Omega.{arith}
 use mathlib.Core.Path.{_≡_, refl, sym, _∙_, ap, subst}
 use mathlib.Core.Bool.{false}
@@ -10,6 +10,7 @@ use Rattle.lists.specs.Members.{Each}
 use Rattle.lists.specs.Places.{changeAt}
 use Rattle.lists.proofs.Tests.{filter-append, filter-none, each-map}
 use Rattle.lists.proofs.Places.{IsPlace, at-change-same, length-change}
+use Rattle.lists.proofs.Loops.{drop-map}
 use Rattle.rules.specs.declared.Transaction.{Transaction}
 use Rattle.rules.specs.declared.Enlistment.{Enlistment}
 use Rattle.rules.specs.declared.Table.{Table}
@@ -17,7 +18,7 @@ use Rattle.rules.specs.Table.{noTransaction, transactionAt, heldBy, held, onHel
 use Rattle.rules.proofs.Local.{Through}
 use Rattle.holdings.specs.Within.{refill, within}
 use Rattle.holdings.proofs.Laws.{change-twice}
-use Rattle.holdings.proofs.Refill.{drop-map, filter-refill, map-refill}
+use Rattle.holdings.proofs.Refill.{filter-refill, map-refill}
 
 -- t has as many places as are held in tb, and nothing of p in the others
 pub record Fits (tb : Table) (p : ℕ) (t : Table) : Type 0 where

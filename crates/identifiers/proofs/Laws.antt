@@ -3,7 +3,7 @@ use Prim.Native.Nat.{ℕ, zero, suc, _≤_, _+_, _*_}
 use native.Mathlib.Omega.{arith}
 use native.Mathlib.Nat.{add-zero}
 use mathlib.Core.Path.{_≡_, refl, _∙_, ap}
-use mathlib.Core.Bool.{Bool, true, false, _&&_}
+use mathlib.Core.Bool.{Bool, true, false, _&&_, and-true}
 use mathlib.Core.List.{List}
 use lib.ListN.{length, getD, drop}
 use lib.Seq.{drop-cons}
@@ -38,7 +38,3 @@ pub two-words : (l : List ℕ) → length l ≡ 16 → all (λ b. eqb b 0) l ≡
 unfolding all
 two-words l h =
     word-zero 8 0 l (omega arith) ∙ ap (λ b. eqb (word 8 0 l) 0 && b) (word-zero 8 8 l (omega arith) ∙ rw (drop-done l 16 (omega arith)) (and-true (eqb (word 8 8 l) 0)))
-  where
-    and-true : (a : Bool) → (a && true) ≡ a
-    and-true true = refl
-    and-true false = refl

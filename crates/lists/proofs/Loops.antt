@@ -6,8 +6,8 @@ use native.Mathlib.Numerals.{add-one}
 use mathlib.Core.Path.{_≡_, refl, ap, sym, _∙_}
 use mathlib.Core.Bool.{Bool, true, false, cond, not, _&&_, _||_}
 use mathlib.Core.List.{List, [], _∷_, _++_, map, append-nil, append-assoc}
-use lib.ListN.{length, getD, set, take, drop, length-set, length-map, drop-of-length-le}
-use lib.Seq.{drop-cons, take-all, take-suc-set}
+use lib.ListN.{length, getD, set, take, drop, length-set, length-map, drop-of-length-le, List·getD-map}
+use lib.Seq.{drop-cons, take-all, take-suc-set, set-getD}
 use lib.Dec.{eqb}
 use borrow.Author.Tests.{eq-eqb, ne-eqb, eqb-true, eqb-false}
 use Rattle.lists.specs.Lists.{all, any, filter, count, firstOr}
@@ -25,6 +25,15 @@ getD-any [] i d e h = absurd (not-suc-le-zero h)
 getD-any (x ∷ xs) zero d e h = refl
 getD-any (x ∷ xs) (suc i) d e h = getD-any xs i d e (le-of-suc-le-suc h)
 
+-- so that at an index that is there stands what g makes of what stood there
+pub getD-mapped : {A B : Type 0} (g : A → B) (l : List A) (i : ℕ) (d : A) (e : B) → i < length l → getD (map g l) i e ≡ g (getD l i d)
+getD-mapped g l i d e h = getD-any (map g l) i e (g d) (rw (length-map l g) h) ∙ List·getD-map g l i d
+
+pub drop-map : {A B : Type 0} (g : A → B) (i : ℕ) (l : List A) → drop i (map g l) ≡ map g (drop i l)
+drop-map g zero l = refl
+drop-map g (suc i) [] = refl
+drop-map g (suc i) (x ∷ xs) = drop-map g i xs
+
 -- what stands at index i comes next, in what is left of the list
 pub drop-at : {A : Type 0} (l : List A) (i : ℕ) (d : A) → i < length l → drop i l ≡ getD l i d ∷ drop (i + 1) l
 drop-at l i d h = rw add-one (drop-cons l i d h)
@@ -32,48 +41,81 @@ drop-at l i d h = rw add-one (drop-cons l i d h)
 pub drop-done : {A : Type 0} (l : List A) (i : ℕ) → length l ≤ i → drop i l ≡ []
 drop-done l i h = drop-of-length-le l h
 
+-- the same of an array of n
+module _ {A : Type 0} (l : List A) {n : ℕ} (e : length l ≡ n) {i : ℕ} where
+  pub array-next : (d : A) → i < n → drop i l ≡ getD l i d ∷ drop (i + 1) l
+  array-next d h = drop-at l i d (omega arith)
+
+  pub array-over : n ≤ i → drop i l ≡ []
+  array-over h = drop-done l i (omega arith)
+
+-- ── what is left says what the whole says ───────────────────────────────────────────────────────────────────────
+
+pub record Left {A B : Type 0} (g : List A → B) (l : List A) (whole : B) (i : ℕ) : Type 0 where
+  pub same : whole ≡ g (drop i l)
+
+module _ {A B : Type 0} {g : List A → B} {l : List A} {whole : B} {i : ℕ} (p : Left g l whole i) where
+  -- g′ is to say it of the others
+  pub left-next : {g′ : List A → B} {x : A} → drop i l ≡ x ∷ drop (i + 1) l → g (x ∷ drop (i + 1) l) ≡ g′ (drop (i + 1) l) → Left g′ l whole (i + 1)
+  left-next n e = record { same = (rw n at (p .same)) ∙ e }
+
+  pub left-stop : {x : A} {r : B} → drop i l ≡ x ∷ drop (i + 1) l → g (x ∷ drop (i + 1) l) ≡ r → r ≡ whole
+  left-stop n e = sym ((rw n at (p .same)) ∙ e)
+
+  pub left-done : {r : B} → drop i l ≡ [] → g [] ≡ r → r ≡ whole
+  left-done n e = sym ((rw n at (p .same)) ∙ e)
+
+-- whether any passes
+module _ {A : Type 0} (f : A → Bool) {l : List A} {whole : Bool} {i : ℕ} (p : Left (any f) l whole i) where
+  pub any-next : {b : Bool} {x : A} → drop i l ≡ x ∷ drop (i + 1) l → b ≡ f x → b ≡ false → Left (any f) l whole (i + 1)
+  unfolding any
+  any-next n e t = left-next p n (rw (sym e ∙ t))
+
+  pub any-here : {b : Bool} {x : A} → drop i l ≡ x ∷ drop (i + 1) l → b ≡ f x → b ≡ true → true ≡ whole
+  unfolding any
+  any-here n e t = left-stop p n (rw (sym e ∙ t))
+
+  pub any-over : drop i l ≡ [] → false ≡ whole
+  unfolding any
+  any-over n = left-done p n refl
+
 -- ── from the front, stopping early: g i of what is left is the answer ───────────────────────────────────────────
 
 pub record Looked {A B : Type 0} (g : ℕ → List A → B) (n : ℕ) (l : List A) (i : ℕ) : Type 0 where
   pub within : i ≤ n
   pub long : length l ≡ n
-  pub same : g 0 l ≡ g i (drop i l)
+  pub left : Left (g i) l (g 0 l) i
 
 module _ {A B : Type 0} {g : ℕ → List A → B} {n : ℕ} {l : List A} where
   pub look-start : length l ≡ n → Looked g n l 0
-  look-start h = record { within = omega arith; long = h; same = refl }
+  look-start h = record { within = omega arith; long = h; left = record { same = refl } }
 
   pub look-next : {i : ℕ} (d : A) → Looked g n l i → i < n → ((xs : List A) → g i (getD l i d ∷ xs) ≡ g (i + 1) xs) → Looked g n l (i + 1)
-  look-next {i} d p h e = record { within = omega arith; long = p .long; same = (rw (drop-at l i d (omega arith)) at (p .same)) ∙ e (drop (i + 1) l) }
+  look-next {i} d p h e = record { within = omega arith; long = p .long; left = left-next (p .left) (array-next l (p .long) d h) (e (drop (i + 1) l)) }
 
   pub look-stop : {i : ℕ} {r : B} (d : A) → Looked g n l i → i < n → ((xs : List A) → g i (getD l i d ∷ xs) ≡ r) → r ≡ g 0 l
-  look-stop {i} d p h e = sym ((rw (drop-at l i d (omega arith)) at (p .same)) ∙ e (drop (i + 1) l))
+  look-stop {i} d p h e = left-stop (p .left) (array-next l (p .long) d h) (e (drop (i + 1) l))
 
   pub look-done : {i : ℕ} {r : B} → Looked g n l i → n ≤ i → g i [] ≡ r → r ≡ g 0 l
-  look-done {i} p h e = sym ((rw (drop-done l i (omega arith)) at (p .same)) ∙ e)
+  look-done p h e = left-done (p .left) (array-over l (p .long) h) e
 
 -- ── the first place that passes f ───────────────────────────────────────────────────────────────────────────────
 
-pub record Sought {A : Type 0} (f : A → Bool) (n : ℕ) (l : List A) (i : ℕ) : Type 0 where
-  pub within : i ≤ n
-  pub long : length l ≡ n
-  pub same : placeOf f l ≡ placeFrom f (i + 1) (drop i l)
+abbrev pub Sought : {A : Type 0} → (A → Bool) → ℕ → List A → ℕ → Type 0
+Sought f n l i = Looked (λ k. placeFrom f (k + 1)) n l i
 
-module _ {A : Type 0} {f : A → Bool} {n : ℕ} {l : List A} where
-  pub seek-start : length l ≡ n → Sought f n l 0
-  seek-start h = record { within = omega arith; long = h; same = refl }
-
+module _ {A : Type 0} (f : A → Bool) {n : ℕ} {l : List A} where
   pub seek-miss : {i : ℕ} {b : Bool} (d : A) → Sought f n l i → i < n → b ≡ f (getD l i d) → b ≡ false → Sought f n l (i + 1)
   unfolding placeFrom
-  seek-miss {i} d p h e t = record { within = omega arith; long = p .long; same = (rw (drop-at l i d (omega arith), sym e ∙ t) at (p .same)) ∙ rw (add-one (i + 1)) }
+  seek-miss {i} d p h e t = look-next d p h (λ xs. rw (sym e ∙ t, add-one (i + 1)))
 
   pub seek-hit : {i : ℕ} {b : Bool} (d : A) → Sought f n l i → i < n → b ≡ f (getD l i d) → b ≡ true → i + 1 ≡ placeOf f l
   unfolding placeFrom
-  seek-hit {i} d p h e t = sym (rw (drop-at l i d (omega arith), sym e ∙ t) at (p .same))
+  seek-hit d p h e t = look-stop d p h (λ xs. rw (sym e ∙ t))
 
   pub seek-done : {i : ℕ} → Sought f n l i → n ≤ i → 0 ≡ placeOf f l
   unfolding placeFrom
-  seek-done {i} p h = sym (rw (drop-done l i (omega arith)) at (p .same))
+  seek-done p h = look-done p h refl
 
 -- what the place that was found says: whether any passes
 module _ {A : Type 0} (f : A → Bool) where
@@ -209,6 +251,33 @@ module _ {A : Type 0} {n : ℕ} {h : List A → List A} where
 pub map-again : {A : Type 0} {n : ℕ} {f : A → A} {whole l : List A} {i : ℕ} {y : A} (d : A) → Rewritten n (map f) whole l i → i < n → y ≡ f (getD l i d) → Rewritten n (map f) whole (set l i y) (i + 1)
 map-again {f = f} d p h q = rewrite-again d p h (λ xs. ap (λ z. z ∷ map f xs) (sym q))
 
+-- of is the list that an r has, and put xs gives it xs for that
+pub record Part {R A : Type 0} (of : R → List A) (put : List A → R → R) : Type 0 where
+  pub of-put : (xs : List A) (r : R) → of (put xs r) ≡ xs
+  pub put-of : (r : R) → put (of r) r ≡ r
+  pub put-put : (xs ys : List A) (r : R) → put xs (put ys r) ≡ put xs r
+
+-- f(x) is put for each x of this list, and nothing else of r changes
+pub record Passed {R A : Type 0} (of : R → List A) (put : List A → R → R) (n : ℕ) (f : A → A) (r₀ r : R) (i : ℕ) : Type 0 where
+  pub list : Rewritten n (map f) (map f (of r₀)) (of r) i
+  pub others : put [] r ≡ put [] r₀
+
+module _ {R A : Type 0} {of : R → List A} {put : List A → R → R} (part : Part of put) {n : ℕ} {f : A → A} where
+  pub pass-start : {r : R} → length (of r) ≡ n → Passed of put n f r r 0
+  pass-start h = record { list = rewrite-start h; others = refl }
+
+  pub pass-again : {r₀ r : R} {i : ℕ} {y : A} (d : A) → Passed of put n f r₀ r i → i < n → y ≡ f (getD (of r) i d) → Passed of put n f r₀ (put (set (of r) i y) r) (i + 1)
+  pass-again {r₀} {r} {i} {y} d p h q = record { list = rw (part .of-put (set (of r) i y) r) (map-again d (p .list) h q); others = part .put-put [] (set (of r) i y) r ∙ p .others }
+
+  -- where f changes nothing, nothing has to be put
+  pub pass-over : {r₀ r : R} {i : ℕ} (d : A) → Passed of put n f r₀ r i → i < n → getD (of r) i d ≡ f (getD (of r) i d) → Passed of put n f r₀ r (i + 1)
+  pass-over {r₀} {r} {i} d p h q = record { list = rw (set-getD (of r) i d) at (map-again d (p .list) h q); others = p .others }
+
+  pub pass-done : {r₀ r : R} {i : ℕ} → Passed of put n f r₀ r i → n ≤ i → r ≡ put (map f (of r₀)) r₀
+  pass-done {r₀} {r} p h =
+      sym (part .put-of r) ∙ ap (λ xs. put xs r) (rewrite-done (p .list) h refl)
+      ∙ sym (part .put-put (map f (of r₀)) [] r) ∙ ap (put (map f (of r₀))) (p .others) ∙ part .put-put (map f (of r₀)) [] r₀
+
 -- ── an array that is filled from another, side by side ──────────────────────────────────────────────────────────
 
 pub record Filled {A B : Type 0} (f : ℕ → List A → List B) (n : ℕ) (l : List A) (out : List B) (i : ℕ) : Type 0 where
@@ -234,3 +303,7 @@ module _ {A B : Type 0} {f : ℕ → List A → List B} {n : ℕ} {l : List A} w
       let z : i ≡ n = omega arith in
       let q : take n out ++ f n (drop n l) ≡ f 0 l = rw z at (p .same) in
       sym (append-nil out) ∙ rw (take-all n out (omega arith), drop-done l n (omega arith), e) at q
+
+-- with f(x) for each x
+pub fill-map : {A B : Type 0} (f : A → B) {n : ℕ} {l : List A} {out : List B} {i : ℕ} {y : B} (d : A) → Filled (λ k. map f) n l out i → i < n → y ≡ f (getD l i d) → Filled (λ k. map f) n l (set out i y) (i + 1)
+fill-map f d p h q = fill-again d p h (λ xs. ap (λ z. z ∷ map f xs) (sym q))

@@ -21,7 +21,7 @@ pub record IsPlace {A : Type 0} (xs : List A) (p : ℕ) : Type 0 where
 -- ── what stands at a place ──────────────────────────────────────────────────────────────────────────────────────
 
 module _ {A : Type 0} (d : A) where
-  pub at-from : (k p i : ℕ) (xs : List A) → p ≡ k + i → atFrom d k p xs ≡ getD xs i d
+  at-from : (k p i : ℕ) (xs : List A) → p ≡ k + i → atFrom d k p xs ≡ getD xs i d
   unfolding atFrom
   at-from k p i [] e = refl
   at-from k p zero (x ∷ xs) e = rw (eq-eqb k p (omega arith))
@@ -45,7 +45,7 @@ module _ {A : Type 0} (d : A) where
       (λ g. let h : length xs < p = leb-false p (length xs) g in inr (at-beyond 1 p xs (omega arith))))
       (λ e. let h : p ≤ 0 = ltb-false 0 p e in inr (at-below 1 p xs (omega arith)))
 
-  pub at-suc : (i : ℕ) (xs : List A) → at d (suc i) xs ≡ getD xs i d
+  at-suc : (i : ℕ) (xs : List A) → at d (suc i) xs ≡ getD xs i d
   at-suc i xs = at-from 1 (suc i) i xs (omega arith)
 
   pub at-is : (p : ℕ) (xs : List A) → at d p xs ≡ cond (eqb p 0) d (getD xs (p - 1) d)
@@ -85,7 +85,7 @@ module _ {A : Type 0} (f : A → A) where
   change-below k p [] h = refl
   change-below k p (x ∷ xs) h = rw (ne-eqb k p (omega arith)) (ap (λ l. x ∷ l) (change-below (suc k) p xs (omega arith)))
 
-  pub change-from : (k p i : ℕ) (d : A) (xs : List A) → p ≡ k + i → changeFrom f k p xs ≡ set xs i (f (getD xs i d))
+  change-from : (k p i : ℕ) (d : A) (xs : List A) → p ≡ k + i → changeFrom f k p xs ≡ set xs i (f (getD xs i d))
   unfolding changeFrom
   change-from k p i d [] e = refl
   change-from k p zero d (x ∷ xs) e = rw (eq-eqb k p (omega arith)) (ap (λ l. f x ∷ l) (change-below (suc k) p xs (omega arith)))

@@ -132,7 +132,7 @@ module _ {A : Type 0} where
   pub some-later : {P : A → Type 0} {x : A} {xs : List A} → Some P xs → Some P (x ∷ xs)
   some-later s = record { it = s .it; there = List·Memᴰ·tail (s .there); holds = s .holds }
 
-  pub some-cases : {P : A → Type 0} {x : A} {xs : List A} → Some P (x ∷ xs) → P x ⊎ Some P xs
+  some-cases : {P : A → Type 0} {x : A} {xs : List A} → Some P (x ∷ xs) → P x ⊎ Some P xs
   some-cases {P} {x} {xs} s = by-either (λ e. inl (subst P e (s .holds))) (λ m. inr (record { it = s .it; there = m; holds = s .holds })) (List·Memᴰ·cases-cons (s .there))
 
 -- ── all, any ────────────────────────────────────────────────────────────────────────────────────────────────────

@@ -66,7 +66,3 @@ forget-stored l used id a b c =
 pub commit-length : (id : List ℕ) (n : ℕ) (es : List Enlistment) → length id ≡ identifierSize → length (entries es) ≡ entrySize * n → recordSize + entrySize * n ≡ length (recordBytes (Record.commit id (map entryOf es)))
 unfolding recordBytes
 commit-length id n es h k = omega (arith, length-append id (entries es))
-
-pub forget-length : (id : List ℕ) → length id ≡ identifierSize → recordSize ≡ length (recordBytes (Record.forget id))
-unfolding recordBytes
-forget-length id h = omega arith

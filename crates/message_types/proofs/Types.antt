@@ -3,18 +3,18 @@
 use Prim.Native.Nat.{ℕ, zero, suc, _+_, _≤_, _<_}
 use native.Mathlib.Nat.{le-of-suc-le-suc, not-suc-le-zero}
 use native.Mathlib.Omega.{arith}
-use mathlib.Core.Path.{_≡_, refl, sym, _∙_}
+use mathlib.Core.Path.{_≡_, refl, _∙_}
 use mathlib.Core.Bool.{Bool, true, false, _&&_}
 use mathlib.Core.List.{List, [], _∷_}
 use lib.Dec.{eqb}
-use lib.ListN.{length, getD, drop, drop-of-length-le}
+use lib.ListN.{length, getD, drop}
 use borrow.Author.Tests.{eqb-true}
 use Rattle.lists.specs.Lists.{any, firstOr}
 use Rattle.lists.specs.Places.{eachFrom}
 use Rattle.lists.proofs.Tests.{true-and}
 use Rattle.rules.specs.Messages.{MessageType, messageType, messageTypes, isType, payloadOf}
 use Rattle.message_types.specs.declared.MessageType as declared
-use Rattle.lists.proofs.Loops.{drop-at}
+use Rattle.lists.proofs.Loops.{array-next, array-over, Left, left-next, left-stop, left-done, any-next, any-here, any-over}
 
 abbrev none : MessageType
 none = messageType 0 0
@@ -66,38 +66,36 @@ rule k d h =
 abbrev isOf : ℕ → MessageType → Bool
 isOf k m = eqb (m .kind) k
 
-pub record Sought (k i : ℕ) : Type 0 where
+pub record LookedUp (k i : ℕ) : Type 0 where
   pub within : i ≤ 8
-  pub known : isType k ≡ any (isOf k) (drop i messageTypes)
-  pub payload : payloadOf k ≡ firstOr none (isOf k) (drop i messageTypes) .payload
+  pub known : Left (any (isOf k)) messageTypes (isType k) i
+  pub payload : Left (λ ms. firstOr none (isOf k) ms .payload) messageTypes (payloadOf k) i
 
 eight : length messageTypes ≡ 8
 unfolding messageTypes
 eight = refl
 
-pub sought-start : {k : ℕ} → Sought k 0
+pub look-up-start : {k : ℕ} → LookedUp k 0
 unfolding isType payloadOf
-sought-start = record { within = omega arith; known = refl; payload = refl }
+look-up-start = record { within = omega arith; known = record { same = refl }; payload = record { same = refl } }
 
-turn : (i : ℕ) → i < 8 → drop i messageTypes ≡ getD messageTypes i none ∷ drop (i + 1) messageTypes
-turn i h = drop-at messageTypes i none (rw eight h)
+module _ (d : Row) {k i : ℕ} (p : LookedUp k i) (h : i < 8) where
+  turn : drop i messageTypes ≡ getD messageTypes i none ∷ drop (i + 1) messageTypes
+  turn = array-next messageTypes eight none h
 
-module _ (d : Row) {k i : ℕ} (p : Sought k i) (h : i < 8) where
-  pub sought-next : eqb (getD table i d .kind) k ≡ false → Sought k (i + 1)
-  unfolding any firstOr
-  sought-next e =
+  pub look-up-next : eqb (getD table i d .kind) k ≡ false → LookedUp k (i + 1)
+  unfolding firstOr
+  look-up-next e =
       let t : eqb (getD messageTypes i none .kind) k ≡ false = rw (rule i d h .kind) at e in
-      record { within = omega arith; known = rw (turn i h, t) at (p .known); payload = rw (turn i h, t) at (p .payload) }
+      record { within = omega arith; known = any-next (isOf k) (p .known) turn refl t; payload = left-next (p .payload) turn (rw t) }
 
-  pub sought-here : eqb (getD table i d .kind) k ≡ true → (true ≡ isType k) × (getD table i d .payload ≡ payloadOf k)
-  unfolding any firstOr
-  sought-here e =
+  pub look-up-here : eqb (getD table i d .kind) k ≡ true → (true ≡ isType k) × (getD table i d .payload ≡ payloadOf k)
+  unfolding firstOr
+  look-up-here e =
       let r = rule i d h in
       let t : eqb (getD messageTypes i none .kind) k ≡ true = rw (r .kind) at e in
-      (sym (rw (turn i h, t) at (p .known)), r .payload ∙ sym (rw (turn i h, t) at (p .payload)))
+      (any-here (isOf k) (p .known) turn refl t, r .payload ∙ left-stop (p .payload) turn (rw t))
 
-pub sought-end : {k i : ℕ} → Sought k i → 8 ≤ i → (false ≡ isType k) × (0 ≡ payloadOf k)
-unfolding any firstOr
-sought-end {k} {i} p h =
-    let e : length messageTypes ≤ i = rw eight h in
-    (sym (rw (drop-of-length-le messageTypes e) at (p .known)), sym (rw (drop-of-length-le messageTypes e) at (p .payload)))
+pub look-up-end : {k i : ℕ} → LookedUp k i → 8 ≤ i → (false ≡ isType k) × (0 ≡ payloadOf k)
+unfolding firstOr
+look-up-end {k} p h = let over = array-over messageTypes eight h in (any-over (isOf k) (p .known) over, left-done (p .payload) over refl)

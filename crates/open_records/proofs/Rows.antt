@@ -1,14 +1,14 @@
 -- Loops over the open records: the next is read from the log, and what is left gives the whole.
-use Prim.Native.Nat.{ℕ, zero, suc, _+_, _*_, _≤_, _<_}
+use Prim.Native.Nat.{ℕ, _+_, _*_, _≤_, _<_}
 use native.Mathlib.Omega.{arith}
 use native.Mathlib.Numerals.{add-one}
 use mathlib.Core.Path.{_≡_, refl, sym}
 use mathlib.Core.Bool.{Bool, _||_, or-assoc}
-use mathlib.Core.List.{List, [], _∷_, _++_, map}
+use mathlib.Core.List.{List, [], _∷_, _++_}
 use lib.ListN.{length, getD, drop, length-map, length-take, length-append}
 use lib.Seq.{drop-cons, getD-take}
 use Rattle.lists.specs.Lists.{any}
-use Rattle.lists.proofs.Loops.{drop-done}
+use Rattle.lists.proofs.Loops.{drop-done, drop-map}
 use Rattle.rules.specs.Sizes.{transactionPlaces}
 use Rattle.rules.specs.Restart.{Open, entriesOpen}
 use Rattle.rules.specs.Log.{Entry}
@@ -22,11 +22,6 @@ use Rattle.open_records.specs.Opening.{startsOf, openAt, opensOf}
 pub opens-long : (log : List ℕ) (rs : OpenRecords) → length (opensOf log rs) ≡ length (startsOf rs)
 unfolding opensOf
 opens-long log rs = length-map (startsOf rs) (openAt log)
-
-drop-map : {A B : Type 0} (f : A → B) (i : ℕ) (xs : List A) → drop i (map f xs) ≡ map f (drop i xs)
-drop-map f zero xs = refl
-drop-map f (suc i) [] = refl
-drop-map f (suc i) (x ∷ xs) = drop-map f i xs
 
 -- n is their count
 module _ (rs : OpenRecords) (i : ℕ) {n : ℕ} (e : n ≡ length (startsOf rs)) where

@@ -7,13 +7,13 @@ use mathlib.Core.List.{List, [], _∷_, append-nil}
 use lib.Dec.{eqb, leb}
 use lib.ListN.{length, take, drop, length-append}
 use borrow.Author.Tests.{leb-true}
-use Rattle.lists.specs.Lists.{any, none, filter, differ}
-use Rattle.lists.proofs.Tests.{by-test, no-clash, true-and, length-filter}
+use Rattle.lists.specs.Lists.{any, none, differ}
+use Rattle.lists.proofs.Tests.{no-clash, true-and, length-filter}
 use Rattle.rules.specs.Sizes.{transactionPlaces, enlistmentPlaces, headerSize}
 use Rattle.rules.specs.Identifiers.{Id, isZero}
 use Rattle.rules.specs.Log.{Entry, Record, scan, behind, beginsNone}
-use Rattle.rules.specs.Restart.{Open, isOpenAs, entriesOpen, afterRecord, openAfter, ascendFrom, sameEntryManager, isFitting, allFitting, usedOf, isDamaged}
-use Rattle.rules.proofs.Restarts.{entries-append}
+use Rattle.rules.specs.Restart.{Open, isOpenAs, entriesOpen, afterRecord, openAfter, ascendFrom, sameEntryManager, isFitting, allFitting, usedOf, isDamaged, bodyOf}
+use Rattle.rules.proofs.Restarts.{entries-append, entries-fewer}
 use Rattle.log_reader.specs.Reading.{identifierAt, entriesAt, isCommitAt, recordAt, wholeAt, noneAt}
 use Rattle.log_reader.proofs.Scanning.{rest-length, scan-next, behind-next, whole-within, scan-end, behind-end, none-is}
 use Rattle.open_records.specs.declared.OpenRecords.{OpenRecords}
@@ -21,16 +21,9 @@ use Rattle.open_records.specs.Opening.{startsOf, opensOf, noneOpen, openBehind}
 use Rattle.open_records.proofs.Rows.{opens-long}
 use Rattle.open_records.proofs.Following.{Long, behind-long, behind-opens}
 use Rattle.read_records.specs.declared.Readings.{Readings}
-use Rattle.read_records.specs.Readback.{bodyOf, openFrom, damagedReadings, Read}
+use Rattle.read_records.specs.Readback.{openFrom, damagedReadings, Read}
 
 -- ── how many are open ───────────────────────────────────────────────────────────────────────────────────────────
-
-entries-filter : (f : Open → Bool) (os : List Open) → length (entriesOpen (filter f os)) ≤ length (entriesOpen os)
-unfolding entriesOpen filter
-entries-filter f [] = omega arith
-entries-filter f (o ∷ os) = by-test (f o)
-    (λ t. rw (t, length-append (o .entries) (entriesOpen (filter f os)), length-append (o .entries) (entriesOpen os)) (omega (arith, entries-filter f os)))
-    (λ t. rw (t, length-append (o .entries) (entriesOpen os)) (omega (arith, entries-filter f os)))
 
 -- what fits leaves no more than the table holds
 pub record Few (os : List Open) : Type 0 where
@@ -69,7 +62,7 @@ few-after os (Record.commit t es) f e =
     }
 few-after os (Record.forget t) f e = record {
   transactions = omega (arith, length-filter (λ o. not (isOpenAs t o)) os, f .transactions);
-  entries = omega (arith, entries-filter (λ o. not (isOpenAs t o)) os, f .entries);
+  entries = omega (arith, entries-fewer (λ o. not (isOpenAs t o)) os, f .entries);
 }
 
 -- a commit record that fits finds a place

@@ -3,18 +3,14 @@ use Prim.Native.Nat.{ℕ, _+_, _≤_}
 use mathlib.Core.Path.{_≡_}
 use mathlib.Core.Bool.{true, false, cond}
 use mathlib.Core.List.{List, [], _∷_}
-use lib.ListN.{length, take, drop}
+use lib.ListN.{length}
 use Rattle.rules.specs.Sizes.{transactionPlaces, enlistmentPlaces, headerSize}
 use Rattle.rules.specs.Log.{Record, scan}
-use Rattle.rules.specs.Restart.{entriesOpen, openAfter, usedOf, isDamaged}
+use Rattle.rules.specs.Restart.{entriesOpen, openAfter, usedOf, isDamaged, bodyOf}
 use Rattle.log_reader.specs.Reading.{wholeAt}
 use Rattle.open_records.specs.declared.OpenRecords.{OpenRecords}
 use Rattle.open_records.specs.Opening.{opensOf, noneOpen, openBehind}
 use Rattle.read_records.specs.declared.Readings.{Readings}
-
--- the stored bytes behind the header
-abbrev pub bodyOf : List ℕ → ℕ → List ℕ
-bodyOf log stored = drop headerSize (take stored log)
 
 -- the places of what is open behind these records, the first of which stands at place p
 unfoldable pub openFrom : List ℕ → ℕ → OpenRecords → ℕ → List Record → OpenRecords

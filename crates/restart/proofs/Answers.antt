@@ -16,14 +16,14 @@ use Rattle.rules.specs.Sizes.{headerSize}
 use Rattle.rules.specs.Identifiers.{sameBytes}
 use Rattle.rules.specs.Table.{freshOf}
 use Rattle.rules.specs.Log.{header, forgetSize, scan, written}
-use Rattle.rules.specs.Restart.{openAfter, tableOf, refusedRestart, doneRestart, usedOf, isDamaged, isTooShort, readBack, isOutside, restartOf, restartedOf}
-use Rattle.rules.proofs.Restarts.{inside}
+use Rattle.rules.specs.Restart.{openAfter, tableOf, refusedRestart, doneRestart, usedOf, isDamaged, isTooShort, bodyOf, readBack, isOutside, restartOf, restartedOf}
+use Rattle.rules.proofs.Restarts.{inside, read-is}
 use Rattle.log_reader.specs.Reading.{bytesAt}
 use Rattle.log_reader.proofs.Scanning.{bytes-are}
 use Rattle.open_records.specs.Opening.{startsOf, opensOf}
 use Rattle.open_records.proofs.Rows.{opens-long}
 use Rattle.read_records.specs.declared.Readings.{Readings}
-use Rattle.read_records.specs.Readback.{bodyOf, Read}
+use Rattle.read_records.specs.Readback.{Read}
 use Rattle.places.specs.Empty.{emptyTable}
 use Rattle.reopening.specs.Reopened.{transactionsPut, enlistmentsPut}
 use Rattle.reopening.proofs.Building.{table-is}
@@ -95,8 +95,7 @@ module _ (log : List ℕ) (stored : ℕ) where
       headed = rw (bytes-front log headerSize (inside log stored e .least), bytes-front header headerSize (omega arith))
 
       pub headed-is : sameBytes (bytesAt log 0 headerSize) (bytesAt header 0 headerSize) ≡ true → restartOf log stored ≡ readBack (bodyOf log stored) log
-      unfolding restartOf
-      headed-is b = rw (e, le-ltb stored headerSize h, headed ∙ b)
+      headed-is b = read-is log stored e h (headed ∙ b)
 
       pub not-headed-is : sameBytes (bytesAt log 0 headerSize) (bytesAt header 0 headerSize) ≡ false → restartOf log stored ≡ refusedRestart refusal.damagedLog log
       unfolding restartOf

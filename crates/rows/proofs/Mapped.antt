@@ -5,7 +5,7 @@ use mathlib.Core.Bool.{Bool, true, false}
 use mathlib.Core.List.{List, [], _∷_, map}
 use lib.ListN.{length, getD, set, length-map, length-set, List·getD-map}
 use Rattle.lists.specs.Lists.{any, firstOr}
-use Rattle.lists.proofs.Loops.{getD-any, Looked, look-next, look-stop, Filled, fill-start, fill-again, fill-done}
+use Rattle.lists.proofs.Loops.{getD-mapped, Looked, look-next, look-stop, Filled, fill-start, fill-again, fill-done}
 
 -- a test of what is read
 pub seen : {A B C : Type 0} (f : B → C) (g : A → B) (l : List A) (i : ℕ) (d : A) {b : C} → b ≡ f (g (getD l i d)) → b ≡ f (getD (map g l) i (g d))
@@ -13,7 +13,7 @@ seen f g l i d e = rw (List·getD-map g l i d) e
 
 -- what is read, whatever stands for what is not there
 pub stands : {A B : Type 0} (g : A → B) (l : List A) (i : ℕ) (d : A) (e : B) {b : B} → i < length l → b ≡ g (getD l i d) → b ≡ getD (map g l) i e
-stands g l i d e h q = seen (λ x. x) g l i d q ∙ getD-any (map g l) i (g d) e (rw (length-map l g) h)
+stands g l i d e h q = q ∙ sym (getD-mapped g l i d e h)
 
 pub map-set : {A B : Type 0} (g : A → B) (l : List A) (i : ℕ) (x : A) → map g (set l i x) ≡ set (map g l) i (g x)
 map-set g [] i x = refl

@@ -1,19 +1,20 @@
 -- How memory holds a table: 17 bytes a transaction, its identifier and its state; 24 bytes an enlistment, its RM, its number, low byte first,
 -- its holder, kind, mark and state.
-use Prim.Native.Nat.{ℕ, _+_, _*_, _<_}
+use Prim.Native.Nat.{ℕ, _<_}
 use mathlib.Core.Path.{_≡_}
-use mathlib.Core.List.{List, map}
+use mathlib.Core.List.{List, [], _∷_, map}
 use lib.ListN.{length, getD, take}
 use Rattle.lists.specs.Members.{Each}
 use Rattle.rules.specs.declared.Transaction.{Transaction}
 use Rattle.rules.specs.declared.Enlistment.{Enlistment}
 use Rattle.rules.specs.declared.Table.{Table}
+use Rattle.rules.specs.Log.{number4}
 
 unfoldable pub transactionIn : List ℕ → Transaction
 transactionIn head = record { id = record { 0 = take 16 head }; state = getD head 16 0 }
 
 abbrev pub numberIn : List ℕ → ℕ
-numberIn row = getD row 16 0 + 256 * getD row 17 0 + 65536 * getD row 18 0 + 16777216 * getD row 19 0
+numberIn row = number4 (getD row 16 0 ∷ getD row 17 0 ∷ getD row 18 0 ∷ getD row 19 0 ∷ [])
 
 unfoldable pub enlistmentIn : List ℕ → Enlistment
 enlistmentIn row = record {

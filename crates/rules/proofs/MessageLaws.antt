@@ -1,6 +1,6 @@
 -- Reader and writer of messages are each other's. A message is its six fields of four bytes and its payload, and the one takes each of these
 -- from the place where the other puts it.
-use Prim.Native.Nat.{ℕ, zero, suc, _+_, _≤_, _<_}
+use Prim.Native.Nat.{ℕ, _+_, _≤_, _<_}
 use native.Mathlib.Omega.{arith}
 use mathlib.Core.Path.{_≡_, refl, sym, _∙_, ap}
 use mathlib.Core.Bool.{Bool, true, false, _||_}
@@ -11,7 +11,7 @@ use lib.Seq.{length-take-le, take-all, take-at, drop-at, drop-drop}
 use borrow.Author.Tests.{eqb-true, eq-eqb, leb-true, le-leb}
 use Rattle.lists.specs.Lists.{all}
 use Rattle.lists.specs.Members.{Each}
-use Rattle.lists.proofs.Tests.{by-test, by-either, and-true, true-and, true-or, all-each, first-passes, first-none, each-nothing, each-more, each-head, each-rest, Holding, that-is-all, _also_, every-holding, holding-every}
+use Rattle.lists.proofs.Tests.{by-test, by-either, and-true, true-and, true-or, all-each, first-passes, first-none, each-take, each-drop, Holding, that-is-all, _also_, every-holding, holding-every}
 use Rattle.rules.specs.declared.Message.{Message}
 use Rattle.rules.specs.RefusalNumber as refusal
 use Rattle.rules.specs.MessageType.{tag}
@@ -128,20 +128,10 @@ pub record InRange (m : Message) : Type 0 where
   pub rm : length (m .rm .0) ≡ identifierSize
   pub session : length (m .session .0) ≡ identifierSize
 
-abbrev pub Bytes : List ℕ → Type 0
-Bytes bs = Each (λ b. b < 256) bs
+abbrev pub EachByte : List ℕ → Type 0
+EachByte bs = Each (λ b. b < 256) bs
 
 -- ── an accepted message, written ────────────────────────────────────────────────────────────────────────────────
-
-each-take : {P : ℕ → Type 0} (n : ℕ) (xs : List ℕ) → Each P xs → Each P (take n xs)
-each-take zero xs h = each-nothing _
-each-take (suc n) [] h = each-nothing _
-each-take (suc n) (x ∷ xs) h = each-more (each-head h) (each-take n xs (each-rest h))
-
-each-drop : {P : ℕ → Type 0} (n : ℕ) (xs : List ℕ) → Each P xs → Each P (drop n xs)
-each-drop zero xs h = h
-each-drop (suc n) [] h = each-nothing _
-each-drop (suc n) (x ∷ xs) h = each-drop n xs (each-rest h)
 
 part-long : (n start : ℕ) (bs : List ℕ) → start + n ≤ length bs → length (take n (drop start bs)) ≡ n
 part-long n start bs h = length-take-le n (drop start bs) (simp length-drop (omega arith))
@@ -151,15 +141,15 @@ part-rest : (n start : ℕ) (bs : List ℕ) → take n (drop start bs) ++ drop (
 part-rest n start bs = rw (sym (drop-drop n start bs)) (take-append-drop n (drop start bs))
 
 -- the bytes from a field on, if n is the field's number and rest what stands behind it
-field-and : (start : ℕ) {n : ℕ} {bs rest : List ℕ} → Bytes bs → start + 4 ≤ length bs → n ≡ fieldAt start bs → rest ≡ drop (start + 4) bs → low4 n ++ rest ≡ drop start bs
+field-and : (start : ℕ) {n : ℕ} {bs rest : List ℕ} → EachByte bs → start + 4 ≤ length bs → n ≡ fieldAt start bs → rest ≡ drop (start + 4) bs → low4 n ++ rest ≡ drop start bs
 field-and start {n} {bs} {rest} h l e q =
     ap (λ k. low4 k ++ rest) e
-    ∙ ap (λ x. x ++ rest) (low-of-number (take 4 (drop start bs)) (part-long 4 start bs l) (each-take 4 (drop start bs) (each-drop start bs h)))
+    ∙ ap (λ x. x ++ rest) (low-of-number (take 4 (drop start bs)) (part-long 4 start bs l) (each-take 4 (each-drop start h)))
     ∙ ap (λ x. take 4 (drop start bs) ++ x) q
     ∙ part-rest 4 start bs
 
-field-small : (start : ℕ) (bs : List ℕ) → Bytes bs → fieldAt start bs ≤ largestNumber
-field-small start bs h = number-small (take 4 (drop start bs)) (each-take 4 (drop start bs) (each-drop start bs h))
+field-small : (start : ℕ) (bs : List ℕ) → EachByte bs → fieldAt start bs ≤ largestNumber
+field-small start bs h = number-small (take 4 (drop start bs)) (each-take 4 (each-drop start h))
 
 where-long : (b : Bool) (t : Id) → (b ≡ true → length t ≡ identifierSize) → length (whereThere b t) ≡ identifierSize
 where-long true t h = h refl
@@ -179,7 +169,7 @@ module _ (bs : List ℕ) (p : IsMessage bs) where
       taken (transaction e) = rw (e, last 16 24 (omega arith))
       taken (nothing e) = rw (e, drop-of-length-le bs {i = 24} (omega arith))
 
-  pub read-in-range : Bytes bs → InRange (messageIn bs)
+  pub read-in-range : EachByte bs → InRange (messageIn bs)
   unfolding messageIn
   read-in-range h = record {
     master = field-small 4 bs h;
@@ -205,7 +195,7 @@ module _ (bs : List ℕ) (p : IsMessage bs) where
     session = λ e. rw e;
   }
 
-  pub read-bytes : Bytes bs → messageBytes (messageIn bs) ≡ bs
+  pub read-bytes : EachByte bs → messageBytes (messageIn bs) ≡ bs
   unfolding messageIn messageBytes
   read-bytes h =
       let l = p .enough in
@@ -293,7 +283,7 @@ fits-from m memory w h = and-true w (le-leb _ _ h)
 -- ── the theorems ────────────────────────────────────────────────────────────────────────────────────────────────
 
 -- Each accepted message writes back to its own bytes.
-pub accepted-writes-back : (bs memory : List ℕ) → Bytes bs → readOf bs .refusal ≡ refusal.accepted → length bs ≤ length memory
+pub accepted-writes-back : (bs memory : List ℕ) → EachByte bs → readOf bs .refusal ≡ refusal.accepted → length bs ≤ length memory
     → writeOf (readOf bs .message) memory ≡ record { refusal = refusal.accepted; length = length bs; memory = bs ++ drop (length bs) memory }
 accepted-writes-back bs memory h e room =
     let p = accepted-message bs e in
@@ -318,7 +308,7 @@ pub record IsWritten (bs : List ℕ) : Type 0 where
   pub writable : isWritable it ≡ true
   pub same : bs ≡ messageBytes it
 
-pub accepted-is-written : (bs : List ℕ) → Bytes bs → readOf bs .refusal ≡ refusal.accepted → IsWritten bs
+pub accepted-is-written : (bs : List ℕ) → EachByte bs → readOf bs .refusal ≡ refusal.accepted → IsWritten bs
 accepted-is-written bs h e =
     let p = message-says bs (accepted-message bs e) in
     record { it = messageIn bs; ranged = read-in-range bs p h; writable = says-writable (read-writable bs p); same = sym (read-bytes bs p h) }

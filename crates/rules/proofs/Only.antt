@@ -45,8 +45,8 @@ only-then r s = record {
 -- ── the verbs ───────────────────────────────────────────────────────────────────────────────────────────────────
 
 -- a change of held enlistments
-abbrev pub Keeps : (Enlistment → Enlistment) → Type 0
-Keeps f = (e : Enlistment) → Held e → Keeping e (f e)
+abbrev pub KeepsHeld : (Enlistment → Enlistment) → Type 0
+KeepsHeld f = (e : Enlistment) → Held e → Keeping e (f e)
 
 pub filter-map-same : {A : Type 0} (t : A → Bool) (g : A → A) (xs : List A) → Each (λ x. (t (g x) ≡ t x) × (t x ≡ true → g x ≡ x)) xs → filter t (map g xs) ≡ filter t xs
 unfolding filter
@@ -55,7 +55,7 @@ filter-map-same t g (x ∷ xs) h = by-test (t x)
     (λ e. rw (each-head h .0, e, each-head h .1 e, filter-map-same t g xs (each-rest h)))
     (λ e. rw (each-head h .0, e, filter-map-same t g xs (each-rest h)))
 
-module _ (p : ℕ) (f : Enlistment → Enlistment) (tb : Table) (some : p ≡ 0 → ⊥) (keeps : Keeps f) where
+module _ (p : ℕ) (f : Enlistment → Enlistment) (tb : Table) (some : p ≡ 0 → ⊥) (keeps : KeepsHeld f) where
   not-by : (q : ℕ) → (q ≡ p → ⊥) → (q ≡ 0 → ⊥) → (e e′ : Enlistment) → e .holder ≡ p → Keeping e e′ → heldBy q e′ ≡ false
   not-by q n z e e′ h (stays c) = ne-eqb (e′ .holder) q (λ d. n (sym d ∙ ap (λ x. x .holder) c ∙ h))
   not-by q n z e e′ h (moves l s c) = ne-eqb (e′ .holder) q (λ d. n (sym d ∙ ap (λ x. x .holder) c ∙ h))
@@ -141,7 +141,7 @@ module _ (p : ℕ) (f : Enlistment → Enlistment) (tb : Table) where
 
 -- ── ending ──────────────────────────────────────────────────────────────────────────────────────────────────────
 
-pub frees : Keeps freed
+pub frees : KeepsHeld freed
 frees e h = goes refl
 
 pub only-emptied : (p : ℕ) (tb : Table) → (p ≡ 0 → ⊥) → Only p tb (emptied p tb)
@@ -181,7 +181,7 @@ room-kept p tb tb′ o i u h r = by-test (openAt p tb′)
     (λ t. let c : openCount tb′ + oneIf (openAt p tb) ≡ openCount tb + 0 = rw t at (open-changes p tb tb′ o i) in omega (arith, o .same-capacity, u, r, c))
 
 -- a change of what is held, which opens nothing
-pub room-held : (p : ℕ) (f : Enlistment → Enlistment) (tb : Table) → Live (transactionAt p tb) → Keeps f → Room tb → Room (changeHeld p f tb)
+pub room-held : (p : ℕ) (f : Enlistment → Enlistment) (tb : Table) → Live (transactionAt p tb) → KeepsHeld f → Room tb → Room (changeHeld p f tb)
 room-held p f tb l keeps = room-kept p tb (changeHeld p f tb) (only-held p f tb n keeps) (live-place p tb l) (used-held p f tb) opened
   where
     n : p ≡ 0 → ⊥

@@ -22,9 +22,10 @@ use Rattle.rules.specs.Table.{noTransaction, isIn, isDone, held, transac
 use Rattle.rules.specs.Sound.{isOpen, openCount, In, HoldsWell, Live, Sound}
 use Rattle.rules.specs.Log.{Record, recordBytes}
 use Rattle.rules.specs.Events.{append, endOf, endIfDone, hearsAbort, abortedOf, abortOf, committing, quietly}
+use Rattle.rules.proofs.Records.{forget-size}
 use Rattle.rules.proofs.Frames.{held-transaction, at-own}
 use Rattle.rules.proofs.Kept.{Kept, stays, moves, kept-state, kept-use, live-place, live-some, sound-kept}
-use Rattle.rules.proofs.Only.{Only, only-same, only-then, Keeps, only-held, kept-held, only-transaction, only-use, at-emptied-place, at-changed, used-held, used-transaction, open-use, each-changed, only-emptied, kept-emptied, openAt, open-changes, Room, room-kept}
+use Rattle.rules.proofs.Only.{Only, only-same, only-then, KeepsHeld, only-held, kept-held, only-transaction, only-use, at-emptied-place, at-changed, used-held, used-transaction, open-use, each-changed, only-emptied, kept-emptied, openAt, open-changes, Room, room-kept}
 use lib.Dec.{eqb}
 
 -- What a part of a step gives.
@@ -46,10 +47,6 @@ pub part-then : {p : ℕ} {a b c : Table} → Only p a b → (Room a → Room b)
 part-then o r h = record { only = only-then o (h .only); kept = h .kept; well = h .well; room = λ q. h .room (r q) }
 
 -- ── the end ─────────────────────────────────────────────────────────────────────────────────────────────────────
-
-pub forget-length : (t : Id) → length t ≡ identifierSize → length (recordBytes (Record.forget t)) ≡ recordSize
-unfolding recordBytes
-forget-length t e = omega arith
 
 pub id-length : (p : ℕ) (tb : Table) → Kept tb → Live (transactionAt p tb) → length (idAt p tb) ≡ identifierSize
 id-length p tb k l = k .transactions .named (transactionAt p tb) (at-member noTransaction (tb .transactions) (live-place p tb l)) .identifier l .0
@@ -101,7 +98,7 @@ end-at p tb log k i =
     written-room : Only p tb (emptied p tb) → openAt p tb ≡ true → Room tb → Room (useMore (length (recordBytes (Record.forget (idAt p tb)))) (emptied p tb))
     written-room o t r =
         let c : openCount (emptied p tb) + 1 ≡ openCount tb + 0 = rw (t, not-open-emptied p tb) at (open-changes p tb (emptied p tb) o i) in
-        omega (arith, r, c, o .same-capacity, used-emptied p tb, open-use (length (recordBytes (Record.forget (idAt p tb)))) (emptied p tb), forget-length (idAt p tb) (id-length p tb k (open-live p tb t)))
+        omega (arith, r, c, o .same-capacity, used-emptied p tb, open-use (length (recordBytes (Record.forget (idAt p tb)))) (emptied p tb), forget-size (idAt p tb) (id-length p tb k (open-live p tb t)))
 
 -- nothing is live there any more
 pub end-over : (p : ℕ) (tb : Table) (log : List ℕ) → transactionAt p (endOf p tb log .table) ≡ noTransaction
@@ -128,7 +125,7 @@ end-if-done-part p tb log k l h = by-test (all isDone (held p tb))
 abbrev pub moved : ℕ → ℕ → (Enlistment → Enlistment) → Table → Table
 moved p s f tb = goTo p s (changeHeld p f tb)
 
-module _ (p s : ℕ) (f : Enlistment → Enlistment) (tb : Table) (k : Kept tb) (l : Live (transactionAt p tb)) (keeps : Keeps f) where
+module _ (p s : ℕ) (f : Enlistment → Enlistment) (tb : Table) (k : Kept tb) (l : Live (transactionAt p tb)) (keeps : KeepsHeld f) where
   live-changed : Live (transactionAt p (changeHeld p f tb))
   live-changed = rw (at-changed p p f tb) l
 
@@ -187,7 +184,7 @@ module _ (p s : ℕ) (f : Enlistment → Enlistment) (tb : Table) (k : Kept tb) 
 abbrev pub Abortable : Enlistment → Type 0
 Abortable e = ((0 < e .state) × (e .state ≤ enlistment.prepared)) ⊎ (In enlistment.preparedLost e ⊎ In enlistment.done e)
 
-pub aborts : Keeps abortedOf
+pub aborts : KeepsHeld abortedOf
 unfolding abortedOf
 aborts e h = by-test (hearsAbort e)
     (λ t. rw t (moves h _ refl))

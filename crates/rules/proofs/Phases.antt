@@ -25,13 +25,13 @@ use Rattle.rules.specs.Log.{Entry, recordBytes, commitSize}
 use Rattle.rules.specs.Events.{append, entryOf, commitRecord, lacksRoom, committedOf, endCommitted, decideOf, startPhaseOne, zeroedOf, commitOf}
 use Rattle.rules.proofs.Frames.{of-held}
 use Rattle.rules.proofs.Kept.{Kept, stays, moves, live-some, SameKey, key-same, key-either}
-use Rattle.rules.proofs.Only.{Keeps, each-changed, some-changed}
+use Rattle.rules.proofs.Only.{KeepsHeld, each-changed, some-changed}
 use Rattle.rules.proofs.Records.{entries-length}
 use Rattle.rules.proofs.Parts.{Part, id-length, end-part, moved-part, written-part, Abortable, abort-part}
 
 -- ── one state for all ───────────────────────────────────────────────────────────────────────────────────────────
 
-pub goes-to : (s : ℕ) → Keeps (inState s)
+pub goes-to : (s : ℕ) → KeepsHeld (inState s)
 goes-to s e h = moves h s refl
 
 held-long : (p s : ℕ) (tb : Table) → length (held p (changeHeld p (inState s) tb)) ≡ length (held p tb)
@@ -68,7 +68,7 @@ module _ (p : ℕ) (tb : Table) (log : List ℕ) (k : Kept tb) (l : Live (transa
 
 -- ── Commit ──────────────────────────────────────────────────────────────────────────────────────────────────────
 
-pub zeroes : Keeps zeroedOf
+pub zeroes : KeepsHeld zeroedOf
 zeroes e h = by-test (isPhaseZero e) (λ t. rw t (moves h _ refl)) (λ t. rw t (stays refl))
 
 -- how an enlistment stands in Phase Zero
@@ -101,7 +101,7 @@ module _ (p : ℕ) (tb : Table) (log : List ℕ) (k : Kept tb) (l : Live (transa
 
 -- ── Decide ──────────────────────────────────────────────────────────────────────────────────────────────────────
 
-pub commits : Keeps committedOf
+pub commits : KeepsHeld committedOf
 unfolding committedOf
 commits e h = by-test (isIn enlistment.prepared e)
     (λ t. rw t (moves h _ refl))

@@ -28,7 +28,7 @@ use Rattle.rules.specs.Sound.{In, PhaseZero, Durable, HoldsWell, Live, H
 use Rattle.rules.specs.Events.{toVote, toReply, toLost, reactionOf, follow, react, reactedOf}
 use Rattle.rules.proofs.Frames.{of-held, in-held}
 use Rattle.rules.proofs.Kept.{Kept, sound-kept, stays, live-some, held-true}
-use Rattle.rules.proofs.Only.{only-same, Keeps, frees, only-held, kept-held, at-changed, each-changed, some-changed, room-held}
+use Rattle.rules.proofs.Only.{only-same, KeepsHeld, frees, only-held, kept-held, at-changed, each-changed, some-changed, room-held}
 use Rattle.rules.proofs.Parts.{Part, part-then, end-part, end-if-done-part, Abortable, abort-part, part-same}
 use Rattle.rules.proofs.Phases.{goes-to, Zeroing, start-part, Voted, Committed, decide-part, voted-abortable}
 
@@ -115,7 +115,7 @@ may-abort (HoldsWell.aborting q h x) z = absurd (omega arith)
 
 -- ── one enlistment changes ──────────────────────────────────────────────────────────────────────────────────────
 
-pub on-number : (n : ℕ) {f : Enlistment → Enlistment} → Keeps f → Keeps (onNumber n f)
+pub on-number : (n : ℕ) {f : Enlistment → Enlistment} → KeepsHeld f → KeepsHeld (onNumber n f)
 on-number n keeps e h = by-test (isNumbered n e) (λ t. rw t (keeps e h)) (λ t. rw t (stays refl))
 
 -- the enlistment with number n, and the transaction that holds it
@@ -163,7 +163,7 @@ module _ (n : ℕ) (tb : Table) (log : List ℕ) (e : Enlistment) (s : Sound tb)
       (λ t. rw t (λ h. rest g m)))
 
   -- what follows goes on from here
-  module _ (f : Enlistment → Enlistment) (keeps : Keeps f) where
+  module _ (f : Enlistment → Enlistment) (keeps : KeepsHeld f) where
     abbrev after : Table
     after = changeNumber p n f tb
 
@@ -200,7 +200,7 @@ module _ (n : ℕ) (tb : Table) (log : List ℕ) (e : Enlistment) (s : Sound tb)
       (λ t. rw t (part-one freed frees (start-part p (changeNumber p n freed tb) log (kept-one freed frees) (live-one freed frees)
       (λ g m. eqb-false _ _ (none-each isPhaseZero _ t g m)))))
 
-  vote-part : (f : Enlistment → Enlistment) → Keeps f → In enlistment.preparing e → (f e .holder ≡ p → (f e .kind ≡ e .kind) × Voted (f e)) → Part p tb (follow then.Decide p (changeNumber p n f tb) log .table)
+  vote-part : (f : Enlistment → Enlistment) → KeepsHeld f → In enlistment.preparing e → (f e .holder ≡ p → (f e .kind ≡ e .kind) × Voted (f e)) → Part p tb (follow then.Decide p (changeNumber p n f tb) log .table)
   unfolding follow
   vote-part f keeps z one =
       let (q, no-p, h, x) = in-phase-one e (d .here) well (omega arith) (omega arith) in

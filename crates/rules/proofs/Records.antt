@@ -36,6 +36,10 @@ unfolding entriesBytes
 entries-length [] v = refl
 entries-length (e ∷ es) v = rw (length-append (entryBytes e) (entriesBytes es), entry-length e (each-head v), entries-length es (each-rest v)) (omega arith)
 
+pub forget-size : (t : List ℕ) → length t ≡ identifierSize → length (recordBytes (Record.forget t)) ≡ forgetSize
+unfolding recordBytes
+forget-size t e = omega arith
+
 entries-read : (es : List Entry) → Each ValidEntry es → entriesOf (length es) (entriesBytes es) ≡ es
 unfolding entriesOf entriesBytes
 entries-read [] v = refl

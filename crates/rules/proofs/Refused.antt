@@ -3,13 +3,12 @@ use Prim.Native.Nat.{ℕ}
 use mathlib.Core.Path.{_≡_, refl, sym, _∙_, ap}
 use mathlib.Core.List.{List}
 use lib.Dec.{eqb, ltb}
-use lib.ListN.{length, take, drop}
+use lib.ListN.{length, take}
 use borrow.Author.Tests.{eqb-true, eq-eqb, ne-eqb}
 use Rattle.lists.proofs.Tests.{by-test, by-cond}
 use Rattle.rules.specs.declared.Table.{Table}
 use Rattle.rules.specs.declared.Event.{Event}
 use Rattle.rules.specs.declared.Message.{Message}
-use Rattle.rules.specs.declared.Read.{Read}
 use Rattle.rules.specs.declared.Row.{Row}
 use Rattle.rules.specs.RefusalNumber as refusal
 use Rattle.rules.specs.Events.{acceptedOf}
@@ -18,9 +17,10 @@ use Rattle.rules.specs.Step.{refusedStep, doneStep, stepOf}
 use Rattle.rules.specs.Sizes.{headerSize}
 use Rattle.rules.specs.Identifiers.{sameBytes}
 use Rattle.rules.specs.Log.{header}
-use Rattle.rules.specs.Restart.{Restart, refusedRestart, isDamaged, isTooShort, isOutside, readBack, restartOf}
-use Rattle.rules.specs.Messages.{isMessage, noMessage, readOf, fits, Writing, writeOf}
+use Rattle.rules.specs.Restart.{Restart, refusedRestart, isDamaged, isTooShort, isOutside, bodyOf, readBack, restartOf}
+use Rattle.rules.specs.Messages.{noMessage, readOf, writeOf}
 use Rattle.rules.specs.Listing.{Listing, listOf, listingRefusal}
+use Rattle.rules.proofs.MessageLaws.{read-refused, write-refused}
 
 -- ── steps ───────────────────────────────────────────────────────────────────────────────────────────────────────
 
@@ -63,7 +63,7 @@ restart-given log stored = by-test (isOutside log stored)
     (λ t. rw t (λ n. refl))
     (λ t. rw t (by-test (ltb stored headerSize)
     (λ u. rw u (by-test (sameBytes (take stored log) (take stored header)) (λ v. rw v (λ n. absurd (n refl))) (λ v. rw v (λ n. refl))))
-    (λ u. rw u (by-test (sameBytes (take headerSize log) header) (λ v. rw v (read-given (drop headerSize (take stored log)) log)) (λ v. rw v (λ n. refl))))))
+    (λ u. rw u (by-test (sameBytes (take headerSize log) header) (λ v. rw v (read-given (bodyOf log stored) log)) (λ v. rw v (λ n. refl))))))
 
 -- "Refused restart: an all-zero table, log untouched."
 pub refused-restart : (log : List ℕ) (stored why : ℕ) → restartOf log stored .refusal ≡ why → (why ≡ refusal.accepted → ⊥) → restartOf log stored ≡ refusedRestart why log
@@ -73,20 +73,16 @@ refused-restart log stored why q n = restart-given log stored (λ z. n (sym q �
 
 -- "Refused reader: an all-zero message."
 pub refused-reader : (bs : List ℕ) (why : ℕ) → readOf bs .refusal ≡ why → (why ≡ refusal.accepted → ⊥) → readOf bs ≡ record { refusal = why; message = noMessage }
-unfolding readOf
-refused-reader bs why q n = go (λ z. n (sym q ∙ z)) ∙ ap (λ w. record { refusal = w; message = noMessage }) q
-  where
-    go : (readOf bs .refusal ≡ refusal.accepted → ⊥) → readOf bs ≡ record { refusal = readOf bs .refusal; message = noMessage }
-    go = by-cond (λ (r : Read). (r .refusal ≡ refusal.accepted → ⊥) → r ≡ record { refusal = r .refusal; message = noMessage }) (isMessage bs) (λ m. absurd (m refl)) (λ m. refl)
+refused-reader bs why q n =
+    let r = read-refused bs (λ z. n (sym q ∙ z)) in
+    r ∙ ap (λ w. record { refusal = w; message = noMessage }) (sym (ap (λ a. a .refusal) r) ∙ q)
 
 -- "Refused writer ..: length .. 0, lent memory untouched."
 pub refused-writer : (m : Message) (memory : List ℕ) (why : ℕ) → writeOf m memory .refusal ≡ why → (why ≡ refusal.accepted → ⊥)
     → writeOf m memory ≡ record { refusal = why; length = 0; memory = memory }
-unfolding writeOf
-refused-writer m memory why q n = go (λ z. n (sym q ∙ z)) ∙ ap (λ w. record { refusal = w; length = 0; memory = memory }) q
-  where
-    go : (writeOf m memory .refusal ≡ refusal.accepted → ⊥) → writeOf m memory ≡ record { refusal = writeOf m memory .refusal; length = 0; memory = memory }
-    go = by-cond (λ (w : Writing). (w .refusal ≡ refusal.accepted → ⊥) → w ≡ record { refusal = w .refusal; length = 0; memory = memory }) (fits m memory) (λ z. absurd (z refl)) (λ z. refl)
+refused-writer m memory why q n =
+    let r = write-refused m memory (λ z. n (sym q ∙ z)) in
+    r ∙ ap (λ w. record { refusal = w; length = 0; memory = memory }) (sym (ap (λ a. a .refusal) r) ∙ q)
 
 -- "Refused .. listing: .. row count 0, lent memory untouched."
 pub refused-listing : (tb : Table) (rows : List Row) (why : ℕ) → listOf tb rows .refusal ≡ why → (why ≡ refusal.accepted → ⊥)

@@ -16,7 +16,7 @@ use Rattle.rules.specs.RefusalNumber as refusal
 use Rattle.rules.specs.Identifiers.{sameBytes}
 use Rattle.rules.specs.Table.{freshOf}
 use Rattle.rules.specs.Log.{Record, header, recordBytes, allBytes, sizeOf, isWhole, scan, behind, beginsNone}
-use Rattle.rules.specs.Restart.{Open, entriesOpen, openAfter, allFitting, tableOf, reenlistment, reenlistments, refusedRestart, doneRestart, usedOf, isDamaged, isTooShort, readBack, isOutside, restartOf}
+use Rattle.rules.specs.Restart.{Open, entriesOpen, openAfter, allFitting, tableOf, reenlistment, reenlistments, refusedRestart, doneRestart, usedOf, isDamaged, isTooShort, bodyOf, readBack, isOutside, restartOf}
 use Rattle.rules.proofs.Records.{Valid, Torn, torn-begins, scan-all, behind-all, scan-length, size-least}
 
 -- ── the open ones and their entries ─────────────────────────────────────────────────────────────────────────────
@@ -25,6 +25,13 @@ pub entries-append : (os ps : List Open) → entriesOpen (os ++ ps) ≡ entriesO
 unfolding entriesOpen
 entries-append [] ps = refl
 entries-append (o ∷ os) ps = rw (entries-append os ps) (sym (append-assoc (o .entries) (entriesOpen os) (entriesOpen ps)))
+
+pub entries-fewer : (f : Open → Bool) (os : List Open) → length (entriesOpen (filter f os)) ≤ length (entriesOpen os)
+unfolding entriesOpen filter
+entries-fewer f [] = omega arith
+entries-fewer f (o ∷ os) = by-test (f o)
+    (λ t. rw (t, length-append (o .entries) (entriesOpen (filter f os)), length-append (o .entries) (entriesOpen os)) (omega (arith, entries-fewer f os)))
+    (λ t. rw (t, length-append (o .entries) (entriesOpen os)) (omega (arith, entries-fewer f os)))
 
 pub reenlistments-long : (p : ℕ) (os : List Open) → length (reenlistments p os) ≡ length (entriesOpen os)
 unfolding reenlistments entriesOpen
@@ -47,19 +54,20 @@ behind-short zero (b ∷ c ∷ bs) = by-test (isWhole b c bs)
 abbrev usedIn : ℕ → List ℕ → ℕ
 usedIn k bs = length bs - length (behind k bs)
 
-record Kept (k : ℕ) (bs : List ℕ) : Type 0 where
+-- these bytes say what all do
+record Suffices (k : ℕ) (bs : List ℕ) : Type 0 where
   scanned : scan k (take (usedIn k bs) bs) ≡ scan k bs
   nothing : behind k (take (usedIn k bs) bs) ≡ []
 
-kept : (k : ℕ) (bs : List ℕ) → k ≤ length bs → Kept k bs
+suffices : (k : ℕ) (bs : List ℕ) → k ≤ length bs → Suffices k bs
 unfolding scan behind
-kept k [] h = record { scanned = refl; nothing = refl }
-kept (suc k) (b ∷ bs) h =
-    let i = kept k bs (omega arith) in
+suffices k [] h = record { scanned = refl; nothing = refl }
+suffices (suc k) (b ∷ bs) h =
+    let i = suffices k bs (omega arith) in
     let n : suc (length bs) - length (behind k bs) ≡ suc (usedIn k bs) = omega (arith, behind-short k bs) in
     record { scanned = rw n (i .scanned); nothing = rw n (i .nothing) }
-kept zero (b ∷ []) h = record { scanned = refl; nothing = refl }
-kept zero (b ∷ c ∷ bs) h = by-test (isWhole b c bs) (λ t. whole t (kept (sizeOf b c - 2) bs (fits t))) torn
+suffices zero (b ∷ []) h = record { scanned = refl; nothing = refl }
+suffices zero (b ∷ c ∷ bs) h = by-test (isWhole b c bs) (λ t. whole t (suffices (sizeOf b c - 2) bs (fits t))) torn
   where
     n : ℕ
     n = sizeOf b c - 2
@@ -70,7 +78,7 @@ kept zero (b ∷ c ∷ bs) h = by-test (isWhole b c bs) (λ t. whole t (kept (si
     fits : isWhole b c bs ≡ true → n ≤ length bs
     fits t = let (p, q) = true-and (ltb 0 (sizeOf b c)) (leb (sizeOf b c) (2 + length bs)) t in omega (arith, leb-true (sizeOf b c) (2 + length bs) q)
 
-    whole : isWhole b c bs ≡ true → Kept n bs → Kept zero (b ∷ c ∷ bs)
+    whole : isWhole b c bs ≡ true → Suffices n bs → Suffices zero (b ∷ c ∷ bs)
     whole t i =
         let (p, q) = true-and (ltb 0 (sizeOf b c)) (leb (sizeOf b c) (2 + length bs)) t in
         let least : 2 ≤ sizeOf b c = size-least b c p in
@@ -82,7 +90,7 @@ kept zero (b ∷ c ∷ bs) h = by-test (isWhole b c bs) (λ t. whole t (kept (si
           nothing = rw (t, e, w, i .nothing);
         }
 
-    torn : isWhole b c bs ≡ false → Kept zero (b ∷ c ∷ bs)
+    torn : isWhole b c bs ≡ false → Suffices zero (b ∷ c ∷ bs)
     torn t = let e : suc (suc (length bs)) - suc (suc (length bs)) ≡ 0 = omega arith in record { scanned = rw (t, e); nothing = rw (t, e) }
 
 -- ── a restart of what a restart accepted ────────────────────────────────────────────────────────────────────────
@@ -111,9 +119,6 @@ inside log stored e =
 pub not-outside : (log : List ℕ) (stored : ℕ) → Inside log stored → isOutside log stored ≡ false
 not-outside log stored i =
     rw (le-ltb (length log) leastCapacity (i .least), le-ltb largestCapacity (length log) (i .most), le-ltb (length log) stored (i .below))
-
-abbrev pub bodyOf : List ℕ → ℕ → List ℕ
-bodyOf log stored = drop headerSize (take stored log)
 
 -- of less than a header, which begins it
 pub fresh-is : (log : List ℕ) (stored : ℕ) → isOutside log stored ≡ false → stored < headerSize → sameBytes (take stored log) (take stored header) ≡ true
@@ -172,7 +177,7 @@ again log stored e = go (accepted log stored e)
     go (read i h s d t r) =
         let body : List ℕ = bodyOf log stored in
         let m : ℕ = usedIn 0 body in
-        let k = kept 0 body (omega arith) in
+        let k = suffices 0 body (omega arith) in
         let n : length body ≡ stored - headerSize = rw (length-drop headerSize (take stored log), length-take-le stored log (i .below)) in
         let b : bodyOf log (headerSize + m) ≡ take m body =
         drop-take headerSize m log ∙ sym (sym (drop-take headerSize m (take stored log)) ∙ ap (drop headerSize) (take-take (headerSize + m) stored log (omega arith)) ∙ drop-take headerSize m log) in

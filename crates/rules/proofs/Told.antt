@@ -23,7 +23,7 @@ use Rattle.rules.specs.Events.{endOf, isUndone, isOver, toldAgain, askOf
 use Rattle.rules.proofs.Frames.{of-held}
 use Rattle.rules.proofs.Along.{as-many}
 use Rattle.rules.proofs.Kept.{Kept, sound-kept, Keeping, stays, moves, kept-map, live-place, live-some, SameKey, key-same, key-either}
-use Rattle.rules.proofs.Only.{Keeps, only-held, kept-held, at-changed, each-changed, some-changed, room-held, Room}
+use Rattle.rules.proofs.Only.{KeepsHeld, only-held, kept-held, at-changed, each-changed, some-changed, room-held, Room}
 use Rattle.rules.proofs.Parts.{Part, end-at, end-over, some-undone, part-same, places-kept}
 use Rattle.rules.proofs.Phases.{Committed}
 use Rattle.rules.proofs.Reacting.{zeroing-range, voting-range, aborted-range}
@@ -39,7 +39,7 @@ in-committing (HoldsWell.committing q n h x) z = (n, h, x)
 in-committing (HoldsWell.aborting q h x) z = absurd (omega arith)
 
 module _ (r : Id) where
-  pub told-keeps : Keeps (toldAgain r)
+  pub told-keeps : KeepsHeld (toldAgain r)
   told-keeps e h = by-test (isUndone r e && isIn enlistment.failedToNotify e) (λ t. rw t (moves h _ refl)) (λ t. rw t (stays refl))
 
   pub told-key : (e : Enlistment) → SameKey e (toldAgain r e)

@@ -130,6 +130,10 @@ isDamaged body = beginsNone (behind 0 body) || not (allFitting [] (scan 0 body))
 abbrev pub isTooShort : List ℕ → ℕ → Bool
 isTooShort body capacity = ltb capacity (usedOf body + forgetSize * length (openAfter [] (scan 0 body)))
 
+-- the stored bytes behind the header
+abbrev pub bodyOf : List ℕ → ℕ → List ℕ
+bodyOf log stored = drop headerSize (take stored log)
+
 unfoldable pub readBack : List ℕ → List ℕ → Restart
 readBack body log =
     cond (isDamaged body) (refusedRestart refusal.damagedLog log)
@@ -149,7 +153,7 @@ restartOf log stored =
     (doneRestart (freshOf (length log)) (header ++ drop headerSize log))
     (refusedRestart refusal.damagedLog log))
     (cond (sameBytes (take headerSize log) header)
-    (readBack (drop headerSize (take stored log)) log)
+    (readBack (bodyOf log stored) log)
     (refusedRestart refusal.damagedLog log)))
 
 -- the answer as the code gives it

@@ -1,11 +1,11 @@
 -- Bytes written one after another: what is written at a place and behind it is written at once, and changes nothing else.
-use Prim.Native.Nat.{ℕ, suc, _+_, _-_, _≤_, _<_}
+use Prim.Native.Nat.{ℕ, _+_, _-_, _≤_}
 use native.Mathlib.Omega.{arith}
 use mathlib.Core.Path.{_≡_, refl, _∙_, ap}
 use mathlib.Core.List.{List, [], _∷_, _++_}
 use lib.Dec.{lit≤}
-use lib.ListN.{length, getD, set, take, drop, length-append, length-drop}
-use lib.Seq.{sets, take-all}
+use lib.ListN.{length, set, take, drop, length-append, length-drop}
+use lib.Seq.{take-all}
 use Rattle.trace_parts.specs.Puts.{Puts, Converts, paddedName, signalText, digitsMost, nameMost, signalMost}
 use Rattle.rules.specs.declared.Name.{Name}
 use Rattle.rules.specs.declared.Name.the-variants as name
@@ -14,8 +14,7 @@ use Rattle.rules.specs.Trace.{text, nameText, decimal}
 use Rattle.trace_words.specs.Words.{wordEnd}
 use Rattle.trace_parts.specs.declared.Decimal.{Decimal}
 use Rattle.trace_parts.proofs.Digits.{most-digits}
-use Rattle.lists.proofs.Loops.{drop-at, drop-done}
-use Rattle.lists.proofs.Stores.{sets-append}
+use Rattle.lists.proofs.Stores.{sets-append, Stored, store-done}
 
 pub put-both : {xs ys before middle after : List ℕ} {at between end : ℕ} → Puts xs before at between middle → Puts ys middle between end after
     → Puts (xs ++ ys) before at end after
@@ -29,23 +28,9 @@ put-both {xs} {ys} {before} {middle} {after} {at} {between} {end} p q =
 pub put-byte : {before : List ℕ} {at : ℕ} (b : ℕ) → Puts (b ∷ []) before at (at + 1) (set before at b)
 put-byte b = record { ends = refl; same = refl }
 
--- a loop that stores the bytes of a text one by one
-pub record Putting (text before : List ℕ) (at : ℕ) (buffer : List ℕ) (i : ℕ) : Type 0 where
-  pub within : i ≤ length text
-  pub same : sets buffer (at + i) (drop i text) ≡ sets before at text
-
-module _ {text before : List ℕ} {at : ℕ} where
-  pub putting-start : Putting text before at before 0
-  putting-start = record { within = omega arith; same = let e : at + 0 ≡ at = omega arith in rw e }
-
-  pub putting-again : {buffer : List ℕ} {i : ℕ} → Putting text before at buffer i → i < length text
-      → Putting text before at (set buffer (at + i) (getD text i 0)) (i + 1)
-  putting-again {buffer} {i} p h =
-      let e : at + (i + 1) ≡ suc (at + i) = omega arith in
-      record { within = omega arith; same = rw e (rw (drop-at text i 0 h) at (p .same)) }
-
-  pub putting-done : {buffer : List ℕ} {i : ℕ} → Putting text before at buffer i → length text ≤ i → Puts text before at (at + i) buffer
-  putting-done {buffer} {i} p h = record { ends = omega arith; same = rw (drop-done text i h) at (p .same) }
+-- the bytes of a text, stored one by one
+pub put-stored : {text before buffer : List ℕ} {at i : ℕ} → Stored (length text) text before at buffer i → length text ≤ i → Puts text before at (at + i) buffer
+put-stored p h = record { ends = omega (arith, p .within); same = store-done p h }
 
 -- ── a number, a name, a signal ──────────────────────────────────────────────────────────────────────────────────
 

@@ -2,7 +2,7 @@
 use Prim.Native.Nat.{ℕ, suc, _+_, _-_, _*_, _≤_, _<_}
 use native.Mathlib.Omega.{arith}
 use mathlib.Core.Path.{_≡_, refl, sym, _∙_, ap}
-use mathlib.Core.Bool.{Bool, true, false, cond, not, _&&_, _||_}
+use mathlib.Core.Bool.{Bool, true, false, cond, not, _&&_, _||_, and-true, and-false}
 use mathlib.Core.List.{List, [], _∷_, _++_}
 use lib.Dec.{eqb, leb, ltb}
 use lib.ListN.{length, getD, take, drop, replicate, length-drop}
@@ -14,7 +14,7 @@ use mathlib.Core.Logic.{inr}
 use Rattle.rules.specs.Sizes.{largestNumber}
 use Rattle.rules.specs.Identifiers.{sameBytes, zeroId}
 use Rattle.rules.specs.Trace.{words, space, digitZero, isDigit, valueFrom, valueOf, isNumeral, isNumberWord, isIdentifierWord}
-use Rattle.lists.proofs.Loops.{drop-at, drop-done}
+use Rattle.lists.proofs.Loops.{drop-at, drop-done, Left, left-next, left-done}
 use Rattle.trace_words.specs.Words.{wordEnd, noNumber, extendedOf, digitsValue, numeralOf, numberOf, identifierWordOf}
 
 -- ── the words of a line ─────────────────────────────────────────────────────────────────────────────────────────
@@ -100,38 +100,30 @@ by-digits n (b ∷ bs) h = by-test (isDigit b)
 -- a loop that extends n by each byte of w
 pub record Extended (w : List ℕ) (n i : ℕ) : Type 0 where
   pub within : i ≤ length w
-  pub same : extendedBy 0 w ≡ extendedBy n (drop i w)
+  pub left : Left (extendedBy n) w (extendedBy 0 w) i
 
 module _ {w : List ℕ} where
   pub extended-start : Extended w 0 0
-  extended-start = record { within = omega arith; same = refl }
+  extended-start = record { within = omega arith; left = record { same = refl } }
 
   pub extended-again : {n i m : ℕ} → Extended w n i → i < length w → m ≡ extendedOf n (getD w i 0) → Extended w m (i + 1)
   unfolding extendedBy
-  extended-again {n} {i} p h e = record { within = omega arith; same = rw e (rw (drop-at w i 0 h) at (p .same)) }
+  extended-again {n} {i} p h e = record { within = omega arith; left = left-next (p .left) (drop-at w i 0 h) (rw e) }
 
   pub extended-done : {n i : ℕ} → Extended w n i → length w ≤ i → n ≡ digitsValue w
   unfolding extendedBy digitsValue
-  extended-done {n} {i} p h = sym (rw (drop-done w i h) at (p .same)) ∙ by-digits 0 w (omega arith)
+  extended-done {n} {i} p h = left-done (p .left) (drop-done w i h) refl ∙ by-digits 0 w (omega arith)
 
 -- ── leading zeros ───────────────────────────────────────────────────────────────────────────────────────────────
-
-and-same : (a : Bool) → (a && true) ≡ a
-and-same true = refl
-and-same false = refl
-
-and-never : (a : Bool) → (a && false) ≡ false
-and-never true = refl
-and-never false = refl
 
 module _ (b : ℕ) (bs : List ℕ) where
   led-well : (eqb (length bs) 0 || not (eqb b digitZero)) ≡ true → digitsValue (b ∷ bs) ≡ numeralOf (b ∷ bs)
   unfolding digitsValue numeralOf isNumeral
-  led-well e = rw (e, and-same (all isDigit (b ∷ bs)))
+  led-well e = rw (e, and-true (all isDigit (b ∷ bs)))
 
   led-by-zero : (eqb (length bs) 0 || not (eqb b digitZero)) ≡ false → noNumber ≡ numeralOf (b ∷ bs)
   unfolding numeralOf isNumeral
-  led-by-zero e = rw (e, and-never (all isDigit (b ∷ bs)))
+  led-by-zero e = rw (e, and-false (all isDigit (b ∷ bs)))
 
 pub no-word : (w : List ℕ) → length w ≡ 0 → noNumber ≡ numeralOf w
 unfolding numeralOf isNumeral

@@ -3,10 +3,11 @@ use Prim.Native.Nat.{_-_}
 use mathlib.Core.Path.{refl}
 use borrow.Author.Needs.{needs}
 use Rattle.lists.specs.Lists.{any}
+use Rattle.lists.proofs.Loops.{Left, any-next, any-here, any-over}
 use lib.ListN.{drop}
 use Rattle.rules.specs.Identifiers.{sameBytes}
 use Rattle.log_reader.specs.Reading.{entriesAt}
-use Rattle.entries.proofs.Rows.{Seen, seen-next, seen-here, seen-none, entry-next, entries-over}
+use Rattle.entries.proofs.Rows.{entry-next, entries-over}
 use Rattle.entries.proofs.has_manager.Statement.{statement}
 use Rattle.entries.proofs.has_manager.Tie as tie
 
@@ -14,14 +15,14 @@ pub has-manager-spec : {M : Type 1} → statement M
 has-manager-spec =
     tie.close
     (tie.spec
-    (λ log at from rm n j₀ j. Seen (λ e. sameBytes (e .rm) rm) (entriesAt log at) (any (λ e. sameBytes (e .rm) rm) (drop from (entriesAt log at))) j)
+    (λ log at from rm n j₀ j. Left (any (λ e. sameBytes (e .rm) rm)) (entriesAt log at) (any (λ e. sameBytes (e .rm) rm) (drop from (entriesAt log at))) j)
     (λ log at from rm n j₀ j. n - j)
     (λ c κs. search needs)
     (λ c. record { same = refl })
     (λ c κs. search needs)
     (λ c κs. search needs)
     (λ c. search needs)
-    (λ c. seen-here (c .before .before .before .before .loop .inv) (entry-next _ _ _ (c .before .before .before .before .before .entries-count .ensures) (c .before .before .before .loop-test .taken)) (rw (c .before .before .manager-at .ensures) at (c .before .same .ensures)) (c .if1 .taken))
+    (λ c. any-here _ (c .before .before .before .before .loop .inv) (entry-next _ _ _ (c .before .before .before .before .before .entries-count .ensures) (c .before .before .before .loop-test .taken)) (rw (c .before .before .manager-at .ensures) at (c .before .same .ensures)) (c .if1 .taken))
     (λ c. search needs)
-    (λ c. seen-next (c .before .before .before .before .loop .inv) (entry-next _ _ _ (c .before .before .before .before .before .entries-count .ensures) (c .before .before .before .loop-test .taken)) (rw (c .before .before .manager-at .ensures) at (c .before .same .ensures)) (c .if1 .left))
-    (λ c. seen-none (c .before .loop .inv) (entries-over _ _ _ (c .before .before .entries-count .ensures) (c .loop-test .left))))
+    (λ c. any-next _ (c .before .before .before .before .loop .inv) (entry-next _ _ _ (c .before .before .before .before .before .entries-count .ensures) (c .before .before .before .loop-test .taken)) (rw (c .before .before .manager-at .ensures) at (c .before .same .ensures)) (c .if1 .left))
+    (λ c. any-over _ (c .before .loop .inv) (entries-over _ _ _ (c .before .before .entries-count .ensures) (c .loop-test .left))))

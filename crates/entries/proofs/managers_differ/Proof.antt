@@ -3,9 +3,10 @@ use Prim.Native.Nat.{_-_}
 use mathlib.Core.Path.{refl}
 use borrow.Author.Needs.{needs}
 use Rattle.lists.specs.Lists.{differ}
+use Rattle.lists.proofs.Loops.{Left, left-done}
 use Rattle.rules.specs.Restart.{sameEntryManager}
 use Rattle.log_reader.specs.Reading.{entriesAt}
-use Rattle.entries.proofs.Rows.{Left, left-done, differ-next, differ-stop, entry-next, entries-over}
+use Rattle.entries.proofs.Rows.{differ-next, differ-stop, entry-next, entries-over}
 use Rattle.entries.proofs.managers_differ.Statement.{statement}
 use Rattle.entries.proofs.managers_differ.Tie as tie
 

@@ -2,9 +2,10 @@
 use Prim.Native.Nat.{_-_}
 use mathlib.Core.Path.{refl}
 use borrow.Author.Needs.{needs}
+use Rattle.lists.proofs.Loops.{Left, left-next, left-stop, left-done}
 use Rattle.rules.specs.Restart.{ascendFrom}
 use Rattle.log_reader.specs.Reading.{entriesAt}
-use Rattle.entries.proofs.Rows.{Left, left-next, left-stop, left-done, entry-next, entries-over}
+use Rattle.entries.proofs.Rows.{entry-next, entries-over}
 use Rattle.entries.proofs.numbers_ascend.Statement.{statement}
 use Rattle.entries.proofs.numbers_ascend.Tie as tie
 

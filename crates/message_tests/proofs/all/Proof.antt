@@ -1,14 +1,9 @@
 -- `every` is `&&` upon `&&`, and its last one, with true, changes nothing.
-use mathlib.Core.Path.{_≡_, refl}
-use mathlib.Core.Bool.{Bool, true, false, _&&_}
+use mathlib.Core.Bool.{and-true}
 use borrow.Author.Needs.{needs}
 use Rattle.lists.specs.Lists.{every}
 use Rattle.message_tests.proofs.all.Statement.{statement}
 use Rattle.message_tests.proofs.all.Tie as tie
-
-last : (b : Bool) → b ≡ (b && true)
-last true = refl
-last false = refl
 
 pub all-spec : {M : Type 1} → statement M
 unfolding every
@@ -19,4 +14,4 @@ all-spec =
     (λ c κs. search needs)
     (λ c κs. search needs)
     (λ c κs. search needs)
-    (λ c. rw (c .both4 .ensures, c .before .both3 .ensures, c .before .before .both2 .ensures, c .before .before .before .both .ensures, ← last)))
+    (λ c. rw (c .both4 .ensures, c .before .both3 .ensures, c .before .before .both2 .ensures, c .before .before .before .both .ensures, and-true)))

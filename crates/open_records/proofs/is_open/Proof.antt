@@ -3,9 +3,9 @@ use Prim.Native.Nat.{_-_}
 use mathlib.Core.Path.{refl}
 use borrow.Author.Needs.{needs}
 use Rattle.lists.specs.Lists.{any}
+use Rattle.lists.proofs.Loops.{Left, any-next, any-here, any-over}
 use Rattle.rules.specs.Restart.{isOpenAs}
 use Rattle.open_records.specs.Opening.{opensOf}
-use Rattle.entries.proofs.Rows.{Seen, seen-next, seen-here, seen-none}
 use Rattle.open_records.proofs.Rows.{open-next, opens-over}
 use Rattle.open_records.proofs.is_open.Statement.{statement}
 use Rattle.open_records.proofs.is_open.Tie as tie
@@ -14,7 +14,7 @@ pub is-open-spec : {M : Type 1} → statement M
 is-open-spec =
     tie.close
     (tie.spec
-    (λ log id records n i₀ i. Seen (isOpenAs id) (opensOf log records) (any (isOpenAs id) (opensOf log records)) i)
+    (λ log id records n i₀ i. Left (any (isOpenAs id)) (opensOf log records) (any (isOpenAs id) (opensOf log records)) i)
     (λ log id records n i₀ i. n - i)
     (λ c κs. search needs)
     (λ c. record { same = refl })
@@ -23,7 +23,7 @@ is-open-spec =
     (λ c κs. search needs)
     (λ c κs. search needs)
     (λ c. search needs)
-    (λ c. seen-here (c .before .before .before .before .before .loop .inv) (open-next _ _ (c .before .before .before .before .before .before .count-of .ensures .0) _ (c .before .before .before .before .loop-test .taken)) (rw (c .before .before .identifier-at .ensures) at (c .before .same .ensures)) (c .if1 .taken))
+    (λ c. any-here _ (c .before .before .before .before .before .loop .inv) (open-next _ _ (c .before .before .before .before .before .before .count-of .ensures .0) _ (c .before .before .before .before .loop-test .taken)) (rw (c .before .before .identifier-at .ensures) at (c .before .same .ensures)) (c .if1 .taken))
     (λ c. search needs)
-    (λ c. seen-next (c .before .before .before .before .before .loop .inv) (open-next _ _ (c .before .before .before .before .before .before .count-of .ensures .0) _ (c .before .before .before .before .loop-test .taken)) (rw (c .before .before .identifier-at .ensures) at (c .before .same .ensures)) (c .if1 .left))
-    (λ c. seen-none (c .before .loop .inv) (opens-over _ _ (c .before .before .count-of .ensures .0) _ (c .loop-test .left))))
+    (λ c. any-next _ (c .before .before .before .before .before .loop .inv) (open-next _ _ (c .before .before .before .before .before .before .count-of .ensures .0) _ (c .before .before .before .before .loop-test .taken)) (rw (c .before .before .identifier-at .ensures) at (c .before .same .ensures)) (c .if1 .left))
+    (λ c. any-over _ (c .before .loop .inv) (opens-over _ _ (c .before .before .count-of .ensures .0) _ (c .loop-test .left))))

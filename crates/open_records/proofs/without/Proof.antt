@@ -2,8 +2,8 @@
 use Prim.Native.Nat.{_-_}
 use mathlib.Core.Path.{refl}
 use borrow.Author.Needs.{needs}
+use Rattle.lists.proofs.Loops.{Left, left-next, left-done}
 use Rattle.open_records.specs.Opening.{startsOf, noneOpen, keptFrom}
-use Rattle.entries.proofs.Rows.{Left, left-next, left-done}
 use Rattle.open_records.proofs.Rows.{start-next, starts-over}
 use Rattle.open_records.proofs.without.Statement.{statement}
 use Rattle.open_records.proofs.without.Tie as tie
