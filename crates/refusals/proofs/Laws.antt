@@ -1,7 +1,7 @@
 -- None passes if and only if no place is found; an enlistment with a number that is not zero is held if and only if the one that is found has it; and a reaction is refused with its own number.
 use Prim.Native.Nat.{ℕ}
 use mathlib.Core.Path.{_≡_, refl, sym}
-use mathlib.Core.Bool.{Bool, true, false, not}
+use mathlib.Core.Bool.{Bool, true, false, Bool·not-not}
 use mathlib.Core.List.{List, [], _∷_}
 use lib.Dec.{eqb}
 use borrow.Author.Tests.{ne-eqb, eqb-false}
@@ -18,11 +18,7 @@ use Rattle.rules.specs.RefusalNumber as refusal
 use Rattle.rules.specs.Refusals.{check, firstOf, isRefused, reactionRefusal}
 
 pub none-place : {A : Type 0} (f : A → Bool) (xs : List A) → none f xs ≡ eqb (placeOf f xs) 0
-none-place f xs = rw (any-place f xs) (twice _)
-  where
-    twice : (b : Bool) → not (not b) ≡ b
-    twice true = refl
-    twice false = refl
+none-place f xs = rw (any-place f xs) (Bool·not-not _)
 
 first-has : (n : ℕ) (es : List Enlistment) → eqb n 0 ≡ false → any (isNumbered n) es ≡ isNumbered n (firstOr noEnlistment (isNumbered n) es)
 unfolding any firstOr

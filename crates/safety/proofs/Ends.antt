@@ -21,7 +21,7 @@ use Rattle.rules.specs.Log.{Record, recordBytes, allBytes, forgetSize}
 use Rattle.rules.specs.Restart.{Open, isOpenAs, afterRecord, openAfter, allFitting}
 use Rattle.rules.specs.Events.{Outcome, append, endOf, endEach}
 use Rattle.rules.proofs.Identifiers.{same-refl, same-equal, other-not-same}
-use Rattle.rules.proofs.Records.{Valid, valid-forget, all-append}
+use Rattle.rules.proofs.Records.{Valid, valid-forget, all-append, forget-size}
 use Rattle.rules.proofs.Frames.{named-is, Stands, Absent, written-used, length-written, not-zero, named-place}
 use Rattle.safety.proofs.Alone.{Story, View, out}
 use Rattle.safety.proofs.Story.{next, story, story-append, onForget}
@@ -31,7 +31,7 @@ use Rattle.safety.proofs.View.{viewOf, view-absent, view-only}
 use Rattle.safety.proofs.Given.{one-place-named}
 use Rattle.rules.proofs.Kept.{Kept, live-true, live-some}
 use Rattle.rules.proofs.Only.{openAt, Room}
-use Rattle.rules.proofs.Parts.{Part, end-at, end-over, id-length, open-live, open-end, closed-end, forget-length, places-kept}
+use Rattle.rules.proofs.Parts.{Part, end-at, end-over, id-length, open-live, open-end, closed-end, places-kept}
 use Rattle.lists.proofs.Places.{IsPlace}
 
 -- ── one end ─────────────────────────────────────────────────────────────────────────────────────────────────────
@@ -226,7 +226,7 @@ module _ (p : ℕ) (tb : Table) (log : List ℕ) (g : Roomy tb log) (place : IsP
 
   end-space : tb′ .used + forgetSize * length os′ ≤ n
   end-space = by-test (openAt p tb)
-      (λ b. omega (arith, open-used b, forget-length (idAt p tb) (id-length p tb (g .kept) (open-live p tb b)), f .space, open-forgets b))
+      (λ b. omega (arith, open-used b, forget-size (idAt p tb) (id-length p tb (g .kept) (open-live p tb b)), f .space, open-forgets b))
       (λ b. omega (arith, closed-used b, closed-keeps b, f .space))
 
   -- who is open afterwards was open, and is another

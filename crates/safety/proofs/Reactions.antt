@@ -56,7 +56,7 @@ use Rattle.rules.proofs.Kept.{SameKey, key-same, key-either, true-live, sound-k
 use Rattle.rules.proofs.Put.{member-held}
 use Rattle.rules.proofs.Preserved.{used-fits}
 use Rattle.rules.proofs.Parts.{id-length}
-use Rattle.rules.proofs.Only.{Keeps, frees, kept-held}
+use Rattle.rules.proofs.Only.{KeepsHeld, frees, kept-held}
 use Rattle.rules.proofs.Phases.{goes-to}
 use Rattle.rules.proofs.Reacting.{on-number}
 
@@ -181,13 +181,13 @@ module _ (tb : Table) (log : List ℕ) (n : ℕ) (s : Sound tb) (full : length l
   abbrev Was : Enlistment → Type 0
   Was w = Some (λ e. SameKey e w) hs
 
-  was : (f : Enlistment → Enlistment) → Keeps f → {w : Enlistment} → w ∈ held p (changed f) → Was w
+  was : (f : Enlistment → Enlistment) → KeepsHeld f → {w : Enlistment} → w ∈ held p (changed f) → Was w
   was f keeps {w} m = record { it = c .it; there = c .there; holds = subst (SameKey (c .it)) (sym (c .holds)) (keeping-key (on-number n keeps (c .it) (member-held p tb somewhere (c .there))) (subst Held (c .holds) (member-held p (changed f) somewhere m))) }
     where
       c : Some (λ e. w ≡ onNumber n f e) hs
       c = held-came p (onNumber n f) tb m
 
-  touched : (f : Enlistment → Enlistment) → Keeps f → Touched t p tb (changed f)
+  touched : (f : Enlistment → Enlistment) → KeepsHeld f → Touched t p tb (changed f)
   unfolding changeHeld
   touched f keeps = record {
     used = refl;
@@ -256,16 +256,16 @@ module _ (tb : Table) (log : List ℕ) (n : ℕ) (s : Sound tb) (full : length l
         go (yes q) = let i : Is m r k me = rw (named .only (h .there) (h .holds .0 .0 ∙ q)) (h .holds .0) in inl (v, rw (q, i .1, i .2) refl, yes-vote)
         go (no q) = inr (keep-others (Preparing m r k) f (λ w. q (sym (w .0 .0) ∙ named .number)) h)
 
-    abbrev HasVoted : (f : Enlistment → Enlistment) → Keeps f → Type 0
+    abbrev HasVoted : (f : Enlistment → Enlistment) → KeepsHeld f → Type 0
     HasVoted f keeps = Voted tb this-event log t p (changed f) (touched f keeps) refl hs (noteOf tb this-event)
 
     -- not the last vote
-    vote-more : (f : Enlistment → Enlistment) (keeps : Keeps f) → HasVoted f keeps → Own tb this-event log t (quietly (changed f) log)
+    vote-more : (f : Enlistment → Enlistment) (keeps : KeepsHeld f) → HasVoted f keeps → Own tb this-event log t (quietly (changed f) log)
     vote-more f keeps w = unlogged tb this-event log t p (changed f) (touched f keeps) refl (changed f) [] (addressed-nothing tb this-event) refl (λ u d. refl)
         (λ h made l a. rw (view-in t p tb here transaction.phaseOne voting-state, view-after f transaction.phaseOne voting-state)
         (vote-on refl (quiet t tb this-event [] (only-nothing notCommitted) (only-nothing notAborted)) (w .calm) (w .preparing) (w .hopes) (w .prepares)))
 
-    vote-decides : (f : Enlistment → Enlistment) (keeps : Keeps f) → HasVoted f keeps → Own tb this-event log t (follow then.Decide p (changed f) log)
+    vote-decides : (f : Enlistment → Enlistment) (keeps : KeepsHeld f) → HasVoted f keeps → Own tb this-event log t (follow then.Decide p (changed f) log)
     unfolding follow
     vote-decides f keeps w = by-cases (Own tb this-event log t) (any (isIn enlistment.preparing) (held p (changed f))) _ _
         (λ _. vote-more f keeps w)

@@ -13,11 +13,11 @@ use Rattle.rules.specs.Sizes.{headerSize}
 use Rattle.rules.specs.Table.{freshOf}
 use Rattle.rules.specs.Sound.{Sound}
 use Rattle.rules.specs.Log.{scan}
-use Rattle.rules.specs.Restart.{restartOf, openAfter, usedOf}
+use Rattle.rules.specs.Restart.{restartOf, openAfter, usedOf, bodyOf}
 use Rattle.rules.proofs.Soundness.{sound-sentences}
 use Rattle.rules.proofs.Preserved.{fresh-sound}
 use Rattle.rules.proofs.Records.{Valid, scan-valid}
-use Rattle.rules.proofs.Restarts.{bodyOf, Accepted, accepted, undamaged}
+use Rattle.rules.proofs.Restarts.{Accepted, accepted, undamaged}
 use Rattle.safety.proofs.Open.{fit-nothing, fit-all}
 use Rattle.safety.proofs.Reopened.{reopened-sound}
 

@@ -17,7 +17,7 @@ use Rattle.rules.specs.Identifiers.{Id}
 use Rattle.rules.specs.Table.{noTransaction, isNamed, placeNamed, transactionAt, stateAt, held, inTransactionState, freed, changeHeld, goTo, emptied, useMore}
 use Rattle.rules.proofs.Frames.{held-transaction, Stands, Absent, stands-place, absent-place, named-found, named-other, state-goes, stands-goes, other-goes, absent-ended, same-place, not-zero, named-place, at-own}
 use Rattle.safety.proofs.Alone.{View, out, early, voting, single, committing, aborting}
-use Rattle.rules.proofs.Only.{Only, Keeps, only-held, only-then, only-transaction, only-emptied, at-emptied-place}
+use Rattle.rules.proofs.Only.{Only, KeepsHeld, only-held, only-then, only-transaction, only-emptied, at-emptied-place}
 
 abbrev pub look : ℕ → List Enlistment → View
 look zero hs = out
@@ -92,11 +92,11 @@ module _ (t : Id) (p : ℕ) (tb : Table) (s : Stands t p tb) where
   somewhere = not-zero (named-place t p tb (s .here))
 
   -- another one, whatever becomes of what t holds, of its state, and of it
-  pub held-other : (g : Enlistment → Enlistment) (u : Id) → Keeps g → (u ≡ t → ⊥) → viewOf u (changeHeld p g tb) ≡ viewOf u tb
+  pub held-other : (g : Enlistment → Enlistment) (u : Id) → KeepsHeld g → (u ≡ t → ⊥) → viewOf u (changeHeld p g tb) ≡ viewOf u tb
   held-other g u k d = view-only u p tb (changeHeld p g tb) (only-held p g tb somewhere k) (named-other t u (transactionAt p tb) (s .here) d)
       (named-other t u (transactionAt p (changeHeld p g tb)) (stands-held t p p g tb s .here) d)
 
-  pub goes-other : (n : ℕ) (g : Enlistment → Enlistment) (u : Id) → Keeps g → (u ≡ t → ⊥) → viewOf u (goTo p n (changeHeld p g tb)) ≡ viewOf u tb
+  pub goes-other : (n : ℕ) (g : Enlistment → Enlistment) (u : Id) → KeepsHeld g → (u ≡ t → ⊥) → viewOf u (goTo p n (changeHeld p g tb)) ≡ viewOf u tb
   goes-other n g u k d = view-only u p tb (goTo p n (changeHeld p g tb)) (only-then (only-held p g tb somewhere k) (only-transaction p (inTransactionState n) (changeHeld p g tb))) (named-other t u (transactionAt p tb) (s .here) d)
       (ap (isNamed u) (at-own p (inTransactionState n) (changeHeld p g tb) (named-place t p (changeHeld p g tb) (stands-held t p p g tb s .here))) ∙ other-goes t p n (changeHeld p g tb) (stands-held t p p g tb s) u d)
 
