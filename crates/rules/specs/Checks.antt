@@ -1,4 +1,4 @@
--- The checks of a step event by event, in their order: of what is looked up for them; and, of a table, at what is found there.
+-- The checks of `Refusals` event by event, as the code asks them: of what is looked up for them; and, of a table, at what is found there. That they refuse alike is proved (`refusal-checks`).
 use Prim.Native.Nat.{ℕ}
 use mathlib.Core.Bool.{Bool, not, _&&_, _||_}
 use mathlib.Core.List.{List, [], _∷_}
