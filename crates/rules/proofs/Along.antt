@@ -1,4 +1,4 @@
--- Two lists side by side: a row of places before a change and after it. Each law goes along both.
+-- What a change keeps at each place, it keeps of the whole row: the row before it and the row after it are lists as long, and each law goes along both.
 use Prim.Native.Nat.{ℕ, suc, _+_, _≤_, _<_}
 use native.Mathlib.Omega.{arith}
 use mathlib.Core.Path.{_≡_, refl, sym, ap, subst}

@@ -10,7 +10,7 @@ use borrow.Author.Tests.{eqb-true, eqb-false, ne-eqb}
 use Rattle.lists.specs.Lists.{filter}
 use Rattle.lists.specs.Members.{Each, Apart}
 use Rattle.lists.specs.Places.{at, changeAt}
-use Rattle.lists.proofs.Tests.{by-test, by-either, no-clash, true-and, and-true, false-not, not-true, filter-filter, by-cond}
+use Rattle.lists.proofs.Tests.{by-test, by-either, no-clash, true-and, and-true, false-not, not-true, filter-filter, by-cond, by-cases}
 use Rattle.lists.proofs.Places.{IsPlace, place-or-nothing, length-change, at-change-same, at-change-other}
 use Rattle.rules.specs.declared.Transaction.{Transaction}
 use Rattle.rules.specs.declared.Enlistment.{Enlistment}
@@ -104,6 +104,10 @@ pub data Keeping (e e′ : Enlistment) : Type 0 where
   moves : Held e → (s : ℕ) → e′ ≡ inState s e → Keeping e e′
   goes : e′ ≡ noEnlistment → Keeping e e′
 
+-- either another state, or as it was
+pub keeping-either : {e x : Enlistment} (b : Bool) (s : ℕ) → (b ≡ true → Held e) → Keeping e x → Keeping e (cond b (inState s e) x)
+keeping-either {e} {x} b s h k = by-cases (Keeping e) b (inState s e) x (λ t. moves (h t) s refl) (λ t. k)
+
 pub keeping-holds : {P : Enlistment → Type 0} → P noEnlistment → ((e : Enlistment) (s : ℕ) → Held e → P e → P (inState s e)) → (e e′ : Enlistment) → Keeping e e′ → P e → P e′
 keeping-holds {P} z k e e′ (stays q) h = subst P (sym q) h
 keeping-holds {P} z k e e′ (moves l s q) h = subst P (sym q) (k e s l h)
@@ -120,7 +124,6 @@ pub record SameKey (e e′ : Enlistment) : Type 0 where
 pub key-same : (e : Enlistment) → SameKey e e
 key-same e = record { holder = refl; rm = refl; number = refl; kind = refl; mark = refl }
 
--- either another state, or as it was
 pub key-either : {e x : Enlistment} (b : Bool) (s : ℕ) → SameKey e x → SameKey e (cond b (inState s e) x)
 key-either {e} b s k = by-cond (SameKey e) b (record { holder = refl; rm = refl; number = refl; kind = refl; mark = refl }) k
 

@@ -24,7 +24,7 @@ use Rattle.rules.specs.Log.{Record, recordBytes}
 use Rattle.rules.specs.Events.{append, endOf, endIfDone, hearsAbort, abortedOf, abortOf, committing, quietly}
 use Rattle.rules.proofs.Records.{forget-size}
 use Rattle.rules.proofs.Frames.{held-transaction, at-own}
-use Rattle.rules.proofs.Kept.{Kept, stays, moves, kept-state, kept-use, live-place, live-some, sound-kept}
+use Rattle.rules.proofs.Kept.{Kept, stays, kept-state, kept-use, live-place, live-some, sound-kept, keeping-either}
 use Rattle.rules.proofs.Only.{Only, only-same, only-then, KeepsHeld, only-held, kept-held, only-transaction, only-use, at-emptied-place, at-changed, used-held, used-transaction, open-use, each-changed, only-emptied, kept-emptied, openAt, open-changes, Room, room-kept}
 use lib.Dec.{eqb}
 
@@ -186,9 +186,7 @@ Abortable e = ((0 < e .state) × (e .state ≤ enlistment.prepared)) ⊎ (In enl
 
 pub aborts : KeepsHeld abortedOf
 unfolding abortedOf
-aborts e h = by-test (hearsAbort e)
-    (λ t. rw t (moves h _ refl))
-    (λ t. rw t (by-test (isIn enlistment.preparedLost e) (λ c. rw c (moves h _ refl)) (λ c. rw c (stays refl))))
+aborts e h = keeping-either (hearsAbort e) enlistment.toldAbort (λ t. h) (keeping-either (isIn enlistment.preparedLost e) enlistment.done (λ t. h) (stays refl))
 
 aborted-state : (e : Enlistment) → Abortable e → In enlistment.toldAbort (abortedOf e) ⊎ In enlistment.done (abortedOf e)
 unfolding abortedOf

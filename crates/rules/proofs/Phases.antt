@@ -24,7 +24,7 @@ use Rattle.rules.specs.Signals.{byNumber}
 use Rattle.rules.specs.Log.{Entry, recordBytes, commitSize}
 use Rattle.rules.specs.Events.{append, entryOf, commitRecord, lacksRoom, committedOf, endCommitted, decideOf, startPhaseOne, zeroedOf, commitOf}
 use Rattle.rules.proofs.Frames.{of-held}
-use Rattle.rules.proofs.Kept.{Kept, stays, moves, live-some, SameKey, key-same, key-either}
+use Rattle.rules.proofs.Kept.{Kept, stays, moves, live-some, SameKey, key-same, key-either, keeping-either}
 use Rattle.rules.proofs.Only.{KeepsHeld, each-changed, some-changed}
 use Rattle.rules.proofs.Records.{entries-length}
 use Rattle.rules.proofs.Parts.{Part, id-length, end-part, moved-part, written-part, Abortable, abort-part}
@@ -69,7 +69,7 @@ module _ (p : ℕ) (tb : Table) (log : List ℕ) (k : Kept tb) (l : Live (transa
 -- ── Commit ──────────────────────────────────────────────────────────────────────────────────────────────────────
 
 pub zeroes : KeepsHeld zeroedOf
-zeroes e h = by-test (isPhaseZero e) (λ t. rw t (moves h _ refl)) (λ t. rw t (stays refl))
+zeroes e h = keeping-either (isPhaseZero e) enlistment.zero (λ t. h) (stays refl)
 
 -- how an enlistment stands in Phase Zero
 abbrev pub Zeroing : Enlistment → Type 0
@@ -103,9 +103,7 @@ module _ (p : ℕ) (tb : Table) (log : List ℕ) (k : Kept tb) (l : Live (transa
 
 pub commits : KeepsHeld committedOf
 unfolding committedOf
-commits e h = by-test (isIn enlistment.prepared e)
-    (λ t. rw t (moves h _ refl))
-    (λ t. rw t (by-test (isIn enlistment.preparedLost e) (λ c. rw c (moves h _ refl)) (λ c. rw c (stays refl))))
+commits e h = keeping-either (isIn enlistment.prepared e) enlistment.toldCommit (λ t. h) (keeping-either (isIn enlistment.preparedLost e) enlistment.failedToNotify (λ t. h) (stays refl))
 
 pub committed-key : (e : Enlistment) → SameKey e (committedOf e)
 unfolding committedOf

@@ -1,4 +1,5 @@
--- Ask and Re-enlisted: an enlistment in 8 becomes 7, or Done; it stays what its transaction may hold, until all are Done and the transaction ends.
+-- Ask and Re-enlisted: an enlistment in 8 becomes 7, or Done. A transaction in Committing may hold all three, so that it stays well until all are Done, and then
+-- it ends.
 use Prim.Native.Nat.{ℕ}
 use native.Mathlib.Omega.{arith}
 use mathlib.Core.Path.{_≡_, refl, sym, _∙_, ap, subst}
@@ -9,7 +10,7 @@ use lib.Dec.{eqb}
 use borrow.Author.Tests.{eqb-true, eq-eqb, ne-eqb}
 use Rattle.lists.specs.Lists.{all, any}
 use Rattle.lists.specs.Members.{_∈_, Each, Some}
-use Rattle.lists.proofs.Tests.{by-test, by-either, is-false, true-and, and-true, and-false, all-each, each-head, each-rest, filter-map, map-same, any-map, each-map}
+use Rattle.lists.proofs.Tests.{by-test, by-either, is-false, true-and, and-true, and-false, all-each, each-head, each-rest, filter-map, map-same, any-map, each-map, by-cond}
 use Rattle.lists.proofs.Places.{IsPlace, of-places, in-places}
 use Rattle.lists.proofs.Sorting.{in-sort, of-sort}
 use Rattle.rules.specs.declared.Enlistment.{Enlistment}
@@ -22,7 +23,7 @@ use Rattle.rules.specs.Sound.{isOpen, openPlaces, In, PhaseZero, HoldsWe
 use Rattle.rules.specs.Events.{endOf, isUndone, isOver, toldAgain, askOf, doneFor, byIdentifier, finished, endEach, reenlistedOf}
 use Rattle.rules.proofs.Frames.{of-held}
 use Rattle.rules.proofs.Along.{as-many}
-use Rattle.rules.proofs.Kept.{Kept, sound-kept, Keeping, stays, moves, kept-map, live-place, live-some, SameKey, key-same, key-either}
+use Rattle.rules.proofs.Kept.{Kept, sound-kept, Keeping, stays, kept-map, live-place, live-some, SameKey, key-same, key-either, keeping-either}
 use Rattle.rules.proofs.Only.{KeepsHeld, only-held, kept-held, at-changed, each-changed, some-changed, room-held, Room}
 use Rattle.rules.proofs.Parts.{Part, end-at, end-over, some-undone, part-same, places-kept}
 use Rattle.rules.proofs.Phases.{Committed}
@@ -40,16 +41,16 @@ in-committing (HoldsWell.aborting q h x) z = absurd (omega arith)
 
 module _ (r : Id) where
   pub told-keeps : KeepsHeld (toldAgain r)
-  told-keeps e h = by-test (isUndone r e && isIn enlistment.failedToNotify e) (λ t. rw t (moves h _ refl)) (λ t. rw t (stays refl))
+  told-keeps e h = keeping-either (isUndone r e && isIn enlistment.failedToNotify e) enlistment.toldCommit (λ t. h) (stays refl)
 
   pub told-key : (e : Enlistment) → SameKey e (toldAgain r e)
   told-key e = key-either (isUndone r e && isIn enlistment.failedToNotify e) enlistment.toldCommit (key-same e)
 
   told-again : (e : Enlistment) → Committed e → Committed (toldAgain r e)
-  told-again e c = by-test (isUndone r e && isIn enlistment.failedToNotify e) (λ t. rw t (inl refl)) (λ t. rw t c)
+  told-again e c = by-cond Committed (isUndone r e && isIn enlistment.failedToNotify e) (inl refl) c
 
   told-undone : (e : Enlistment) → (In enlistment.done e → ⊥) → In enlistment.done (toldAgain r e) → ⊥
-  told-undone e c = by-test (isUndone r e && isIn enlistment.failedToNotify e) (λ t. rw t (λ z. omega arith)) (λ t. rw t c)
+  told-undone e c = by-cond (λ (f : Enlistment). In enlistment.done f → ⊥) (isUndone r e && isIn enlistment.failedToNotify e) (λ z. omega arith) c
 
   pub ask-part : (p : ℕ) (tb : Table) (log : List ℕ) → Sound tb → Part p tb (askOf p r tb log .table)
   unfolding askOf
@@ -113,12 +114,12 @@ module _ (r : Id) (tb : Table) where
   after = withEnlistments (map (doneFor r) (tb .enlistments)) tb
 
   done-keeps : Kept tb → Each (λ e. Keeping e (doneFor r e)) (tb .enlistments)
-  done-keeps k e m = by-test (isDurableOf r e && isIn enlistment.failedToNotify e)
-      (λ t. rw t (moves (λ z. omega (arith, eqb-true (e .state) enlistment.failedToNotify (true-and (isDurableOf r e) (isIn enlistment.failedToNotify e) t .1), ap (λ x. x .state) (k .enlistments .proper e m .empty z))) _ refl))
-      (λ t. rw t (stays refl))
+  done-keeps k e m = keeping-either (isDurableOf r e && isIn enlistment.failedToNotify e) enlistment.done
+      (λ t z. omega (arith, eqb-true (e .state) enlistment.failedToNotify (true-and (isDurableOf r e) (isIn enlistment.failedToNotify e) t .1), ap (λ x. x .state) (k .enlistments .proper e m .empty z)))
+      (stays refl)
 
   done-committed : (e : Enlistment) → Committed e → Committed (doneFor r e)
-  done-committed e c = by-test (isDurableOf r e && isIn enlistment.failedToNotify e) (λ t. rw t (inr (inr refl))) (λ t. rw t c)
+  done-committed e c = by-cond Committed (isDurableOf r e && isIn enlistment.failedToNotify e) (inr (inr refl)) c
 
   not-durable : (e : Enlistment) → isDurableOf r e ≡ false → doneFor r e ≡ e
   not-durable e t = rw t

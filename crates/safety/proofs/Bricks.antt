@@ -5,14 +5,14 @@ use native.Mathlib.Omega.{arith}
 use mathlib.Core.Path.{_≡_, refl, sym, _∙_, ap, subst}
 use mathlib.Core.Logic.{_⊎_, inl, inr}
 use mathlib.Core.Bool.{true, false, not}
-use mathlib.Core.List.{List, [], _∷_, _++_, map, append-assoc}
+use mathlib.Core.List.{List, [], _∷_, _++_, map}
 use lib.ListN.{length, take, drop, replicate, length-append, length-map, length-drop, length-replicate}
 use lib.Seq.{length-take-le, take-append-le, take-append-seam}
 use lib.Dec.{eqb, ltb}
 use borrow.Author.Tests.{le-ltb, ltb-true, ltb-false, eqb-true}
 use Rattle.lists.specs.Lists.{filter}
 use Rattle.lists.specs.Members.{Each, Apart}
-use Rattle.lists.proofs.Tests.{by-cases, by-test, by-either, no-clash, is-false, and-true, true-and, or-false, false-not, each-nothing, each-head, each-rest, filter-all, each-both, each-back}
+use Rattle.lists.proofs.Tests.{by-cases, by-test, by-either, no-clash, is-false, and-true, true-and, or-false, false-not, each-nothing, each-head, each-rest, filter-all, each-back}
 use Rattle.lists.proofs.Apart.{apart-head, apart-rest}
 use Rattle.rules.specs.declared.Table.{Table}
 use Rattle.rules.specs.declared.Event.{Event}
@@ -34,12 +34,12 @@ use Rattle.safety.specs.Run.{Run, start, step, store, trim, leave, resta
 use Rattle.safety.specs.Beyond.{NeverBricked}
 use Rattle.safety.proofs.Alone.{none}
 use Rattle.safety.proofs.Top.{Alive, Always, always, agrees}
-use Rattle.safety.proofs.Story.{storyOf, Formed, story-formed, nothing-mine, tells}
+use Rattle.safety.proofs.Story.{storyOf, Formed, story-formed, nothing-mine, tells, formed-append}
 use Rattle.safety.proofs.View.{viewOf}
 use Rattle.safety.proofs.Open.{Fit, fit-nothing, fit-record, fit-all, open-both, fitting-both}
-use Rattle.safety.proofs.Fitting.{Ready, AllPlaces}
+use Rattle.safety.proofs.Fitting.{Ready, AllPlaces, Written}
 use Rattle.safety.proofs.Reopened.{reopened-sound}
-use Rattle.safety.proofs.Steps.{Written, step-writes, step-refuses, step-needs-sound, zero-unsound}
+use Rattle.safety.proofs.Steps.{step-writes, step-refuses, step-needs-sound, zero-unsound}
 use Rattle.safety.proofs.Lengths.{Same, step-same}
 use Rattle.safety.proofs.Restarts as restarts
 use Rattle.safety.proofs.Restarts.{restart-refuses}
@@ -101,13 +101,10 @@ ready w a g s = record {
 }
 
 -- what is written behind it can be read back, too
-readable-more : (tb : Table) (log : List ℕ) (e : Event) (g : Readable tb log) → Written tb log (stepOf tb e log) → Ready tb log (openAfter [] (g .formed .records)) → Readable (stepOf tb e log .table) (stepOf tb e log .log)
+readable-more : (tb : Table) (log : List ℕ) (e : Event) (g : Readable tb log) → Written tb log (stepOf tb e log .table) (stepOf tb e log .log) → Ready tb log (openAfter [] (g .formed .records)) → Readable (stepOf tb e log .table) (stepOf tb e log .log)
+unfolding formed-append
 readable-more tb log e g w r = record {
-  formed = record {
-    records = g .formed .records ++ w .records;
-    valid = each-both (g .formed .records) (w .records) (g .formed .valid) (w .valid);
-    bytes = w .bytes ∙ ap (λ l. l ++ allBytes (w .records)) (g .formed .bytes) ∙ append-assoc header (allBytes (g .formed .records)) (allBytes (w .records)) ∙ ap (λ l. header ++ l) (sym (all-append (g .formed .records) (w .records)));
-  };
+  formed = formed-append (g .formed) (w .records) (w .valid) (w .bytes);
   fitting = fitting-both [] (g .formed .records) (w .records) ∙ and-true (g .fitting) (j .0);
   room = rw (open-both [] (g .formed .records) (w .records), k .bytes) (j .1);
   places = record { transactions-many = k .transactions ∙ g .places .transactions-many; enlistments-many = k .enlistments ∙ g .places .enlistments-many };

@@ -1,5 +1,5 @@
--- Several transactions end in one event: what the ends in a row are to each transaction. Each forgets the one that stands at its place,
--- and leaves every other one where it was; the room for the forget records was kept.
+-- Several transactions end in one event. Each end is a part of Parts: it changes its own place alone, so that it forgets the transaction that stands there, and
+-- leaves every other one where it was; and the room for its forget record was kept.
 use Prim.Native.Nat.{ℕ, _+_, _*_, _≤_, _<_}
 use native.Mathlib.Omega.{arith}
 use mathlib.Core.Path.{_≡_, refl, sym, _∙_, ap, ap₂, subst}

@@ -23,13 +23,13 @@ use Rattle.rules.specs.Sizes.{recordSize, transactionPlaces, enlistmentPlaces}
 use Rattle.rules.specs.Identifiers.{Id, isZero}
 use Rattle.rules.specs.Table.{noTransaction, isLive, isNamed, placeNamed, transactionAt, stateAt, held}
 use Rattle.rules.specs.Sound.{Sound, Durable, isOpen, openPlaces, openCount}
-use Rattle.rules.specs.Log.{Entry, Record}
+use Rattle.rules.specs.Log.{Entry, Record, allBytes}
 use Rattle.rules.specs.Restart.{Open, isOpenAs, openAfter, isFitting, allFitting, entriesOpen, ascendFrom, sameEntryManager}
 use Rattle.rules.specs.Signals.{byNumber}
 use Rattle.rules.specs.Events.{entryOf}
 use Rattle.rules.proofs.Identifiers.{same-refl, same-equal, equal-same, identifier-nonzero}
 use Rattle.rules.proofs.Frames.{of-held, named-is, named-found, named-place, not-zero, Stands}
-use Rattle.safety.specs.World.{ownerOf}
+use Rattle.safety.specs.World.{ownerOf, usedPart}
 use Rattle.safety.proofs.Alone.{Story, none, open-with, closed, bad, View, out, early, voting, single, committing, aborting, NoDurable, Entered, durable-any}
 use Rattle.safety.proofs.Top.{Agrees}
 use Rattle.safety.proofs.Story.{mine, Tells}
@@ -38,6 +38,7 @@ use Rattle.safety.proofs.Given.{stands-sound, owner-held}
 use Rattle.safety.proofs.Open.{Fit, FitCommit, of-entries}
 use Rattle.rules.proofs.Kept.{true-live}
 use Rattle.rules.proofs.Put.{member-held}
+use Rattle.rules.proofs.Records.{Valid}
 
 -- ── what is ready for a record ──────────────────────────────────────────────────────────────────────────────────
 
@@ -59,6 +60,13 @@ pub record Ready (tb : Table) (log : List ℕ) (os : List Open) : Type 0 where
 -- the records fit, and there is room for the forget records of those that are open then
 pub record Judged (tb : Table) (log : List ℕ) (used : ℕ) (rs : List Record) : Type 0 where
   pub judged : (os : List Open) → Ready tb log os → (allFitting os rs ≡ true) × (used + recordSize * length (openAfter os rs) ≤ length log)
+
+-- what an event has written
+pub record Written (tb : Table) (log : List ℕ) (tb′ : Table) (log′ : List ℕ) : Type 0 where
+  pub records : List Record
+  pub valid : Each Valid records
+  pub bytes : usedPart tb′ log′ ≡ usedPart tb log ++ allBytes records
+  pub judged : Judged tb log (tb′ .used) records
 
 pub judged-nothing : (tb : Table) (log : List ℕ) (used : ℕ) → used ≡ tb .used → Judged tb log used []
 unfolding allFitting openAfter

@@ -1,5 +1,5 @@
 -- What an accepted step may take for granted of the table that it is given: it is sound, so that names stand at one place, a number is
--- one enlistment's, and the state of an enlistment tells that of its transaction.
+-- one enlistment's, no two that are held are alike, and the state of an enlistment tells that of its transaction.
 use Prim.Native.Nat.{ℕ, _≤_}
 use mathlib.Core.Path.{_≡_, refl, sym, _∙_, ap}
 use mathlib.Core.Logic.{_⊎_, inl, inr}

@@ -45,7 +45,7 @@ use Rattle.safety.proofs.Top.{Agrees}
 use Rattle.safety.proofs.Story.{next, story, mine, Tells, forgotten}
 use Rattle.safety.proofs.View.{viewOf, look, view-stands, view-goes, goes-other, view-ends, ends-other, view-more, stands-held}
 use Rattle.safety.proofs.Open.{FitCommit, fits-commit}
-use Rattle.safety.proofs.Fitting.{Ready, Judged, judged-nothing, mine-none, told-open, open-shown, shown-open, open-count, commit-fit, live-nonzero, forget-fit, one-forgotten}
+use Rattle.safety.proofs.Fitting.{Ready, Judged, judged-nothing, mine-none, told-open, open-shown, shown-open, open-count, commit-fit, live-nonzero, forget-fit, one-forgotten, Written}
 use Rattle.safety.proofs.Messages.{notCommitted, notAborted, Only, only-nothing, only-one, only-each, Addressed, Owned, owned-about, addressed-nothing, addressed-one, addressed-each, none-committed, none-aborted, quiet}
 use Rattle.rules.proofs.Phases.{committed-key, commits, goes-to}
 use Rattle.rules.specs.declared.Name.{Name}
@@ -55,15 +55,12 @@ use Rattle.safety.proofs.Given.{held-sized, numbers-apart, managers-apa
 -- ── what is shown of an outcome ─────────────────────────────────────────────────────────────────────────────────
 
 pub record Own (tb : Table) (e : Event) (log : List ℕ) (t : Id) (o : Outcome) : Type 0 where
-  pub records : List Record
-  pub valid : Each Valid records
-  pub bytes : take (o .table .used) (o .log) ≡ take (tb .used) log ++ allBytes records
-  pub other-story : (u : Id) → (u ≡ t → ⊥) → (s : Story) → story u s records ≡ s
+  pub wrote : Written tb log (o .table) (o .log)
+  pub other-story : (u : Id) → (u ≡ t → ⊥) → (s : Story) → story u s (wrote .records) ≡ s
   pub other-view : (u : Id) → (u ≡ t → ⊥) → viewOf u (o .table) ≡ viewOf u tb
-  pub judged : Judged tb log (o .table .used) records
   pub addressed : Addressed tb e (o .signals)
   pub move : (h : List Note) → Makes careful h e → (l : Story) → Agrees (viewOf t tb) l
-      → Move t h (noteOf tb e) (map (messageOf tb e) (o .signals)) l (story t l records) (viewOf t tb) (viewOf t (o .table))
+      → Move t h (noteOf tb e) (map (messageOf tb e) (o .signals)) l (story t l (wrote .records)) (viewOf t tb) (viewOf t (o .table))
 
 -- an outcome that writes nothing
 pub unwritten : (tb : Table) (e : Event) (log : List ℕ) (t : Id) (tb₂ : Table) (ss : List Signal) → Addressed tb e ss → tb₂ .used ≡ tb .used → ((u : Id) → (u ≡ t → ⊥) → viewOf u tb₂ ≡ viewOf u tb)
@@ -71,12 +68,9 @@ pub unwritten : (tb : Table) (e : Event) (log : List ℕ) (t : Id) (tb₂ : Tabl
     → Own tb e log t (record { table = tb₂; log = log; signals = ss })
 unfolding story allBytes
 unwritten tb e log t tb₂ ss addressed same-used others move = record {
-  records = [];
-  valid = each-nothing Valid;
-  bytes = rw same-used (sym (append-nil (take (tb .used) log)));
+  wrote = record { records = []; valid = each-nothing Valid; bytes = rw same-used (sym (append-nil (take (tb .used) log))); judged = judged-nothing tb log (tb₂ .used) same-used };
   other-story = λ u d s. refl;
   other-view = others;
-  judged = judged-nothing tb log (tb₂ .used) same-used;
   addressed = addressed;
   move = move;
 }
@@ -133,6 +127,10 @@ module _ (tb : Table) (e : Event) (log : List ℕ) (t : Id) (p : ℕ) (tb₁ : T
       → Here (saying (toApp a) (endOf p tb₁ log))
   own-end-saying a not-committing moves = rw (unlogged-end p tb₁ log not-committing) (unlogged (emptied p tb₁) (toApp a) (addressed-one tb e a 0 (inl refl)) (used-emptied p tb₁) (ends-other t p tb₁ (z .stands))
       (λ h f l g. rw (view-ends t p tb₁ (z .stands)) (moves h f l g)))
+
+  -- one record stands behind the used bytes
+  one-written : (bs : List ℕ) {n : ℕ} → n ≡ tb₁ .used → tb₁ .used + length bs ≤ length log → take (n + length bs) (written n bs log) ≡ take (tb .used) log ++ (bs ++ [])
+  one-written bs e fits = ap (λ n. take (n + length bs) (written n bs log)) e ∙ written-used (tb₁ .used) bs log fits ∙ ap₂ (λ n l. take n log ++ l) (z .used) (sym (append-nil bs))
 
   -- ── abort ─────────────────────────────────────────────────────────────────────────────────────────────────────
 
@@ -295,12 +293,9 @@ module _ (tb : Table) (e : Event) (log : List ℕ) (t : Id) (p : ℕ) (tb₁ : T
       decide-durable : Here (saying (commitSignals hs₁) (append (commitRecord (idAt p tb₁) hs₁) (committing p tb₁) log))
       unfolding append commitRecord useMore story next allBytes entries ds
       decide-durable = rw own-id (record {
-        records = Record.commit t entries ∷ [];
-        valid = each-one Valid ok;
-        bytes = ap (λ n. take (n + length bs) (written n bs log)) (used-goes p transaction.committing committedOf tb₁) ∙ written-used (tb₁ .used) bs log (omega (arith, size, fits)) ∙ ap₂ (λ n l. take n log ++ l) (z .used) (sym (append-nil bs));
+        wrote = record { records = Record.commit t entries ∷ []; valid = each-one Valid ok; bytes = one-written bs (used-goes p transaction.committing committedOf tb₁) (omega (arith, size, fits)); judged = commit-judged };
         other-story = λ u n s. rw (not-same u n) refl;
         other-view = λ u n. view-more u (length bs) (committing p tb₁) ∙ goes-other t p tb₁ (z .stands) transaction.committing committedOf u commits n ∙ z .other-view u n;
-        judged = commit-judged;
         addressed = commit-home;
         move = λ h f l a. rw (shown, view-more t (length bs) (committing p tb₁) ∙ view-goes t p tb₁ (z .stands) transaction.committing committedOf (λ q. omega arith))
             (decide-logged {rs = entries} (rw (same-refl t, rw shown at a) refl) (v .calm) (none-aborted t tb e (commitSignals hs₁) commit-not-aborted) all-voted
@@ -358,12 +353,14 @@ module _ (tb : Table) (e : Event) (log : List ℕ) (t : Id) (p : ℕ) (tb₁ : T
     end-durable : any isDurable hs₁ ≡ true → all isDone hs₁ ≡ true → tb₁ .used + forgetSize ≤ length log → Here (append (Record.forget (idAt p tb₁)) (emptied p tb₁) log)
     unfolding append useMore story next allBytes recordBytes
     end-durable d all-done fits = rw own-id (record {
-      records = Record.forget t ∷ [];
-      valid = each-one Valid (valid-forget id-size);
-      bytes = ap (λ n. take (n + length bs) (written n bs log)) (used-emptied p tb₁) ∙ written-used (tb₁ .used) bs log (omega (arith, fits, size)) ∙ ap₂ (λ n l. take n log ++ l) (z .used) (sym (append-nil bs));
+      wrote = record {
+        records = Record.forget t ∷ [];
+        valid = each-one Valid (valid-forget id-size);
+        bytes = one-written bs (used-emptied p tb₁) (omega (arith, fits, size));
+        judged = forget-judged d (ap (λ n. n + length bs) (used-emptied p tb₁ ∙ z .used) ∙ ap (λ n. tb .used + n) size);
+      };
       other-story = λ u n s. rw (not-same u n) refl;
       other-view = λ u n. view-more u (length bs) (emptied p tb₁) ∙ ends-other t p tb₁ (z .stands) u n ∙ z .other-view u n;
-      judged = forget-judged d (ap (λ n. n + length bs) (used-emptied p tb₁ ∙ z .used) ∙ ap (λ n. tb .used + n) size);
       addressed = addressed-nothing tb e;
       move = λ h f l a. rw (same-refl t, shown, view-more t (length bs) (emptied p tb₁) ∙ view-ends t p tb₁ (z .stands))
           (end-logged (forgotten hs l (rw shown at a) (some-left d)) (w .calm) (quiet t tb e [] (only-nothing notCommitted) (only-nothing notAborted)) (λ r y. closing all-done r (w .waits r y)));

@@ -27,7 +27,7 @@ use Rattle.rules.specs.Sound.{Sound, soundOf}
 use Rattle.rules.specs.Log.{Record, allBytes}
 use Rattle.rules.specs.Events.{Outcome, acted, reactedOf, reactionOf, endEach, reenlistedOf}
 use Rattle.rules.specs.Refusals.{isNumberHeld, isRefused, refusalOf, isOneOf, namesZero, isNotLive, isNotHeld, isAlreadyLive, isStateWrong, isReactionRefused, isFull}
-use Rattle.rules.specs.Step.{Step, doneStep, stepOf}
+use Rattle.rules.specs.Step.{doneStep, stepOf}
 use Rattle.rules.proofs.Identifiers.{same-refl, same-equal}
 use Rattle.rules.proofs.Soundness.{sound-sentences}
 use Rattle.rules.proofs.Records.{Valid}
@@ -43,7 +43,7 @@ use Rattle.safety.proofs.Top.{Agrees, Refused, Accepted}
 use Rattle.safety.proofs.Story.{story, storyOf, Formed, formed-append, story-more}
 use Rattle.safety.proofs.View.{viewOf}
 use Rattle.safety.proofs.Given.{Named, named-sound}
-use Rattle.safety.proofs.Fitting.{Judged}
+use Rattle.safety.proofs.Fitting.{Written}
 use Rattle.safety.proofs.Messages.{quiet-other}
 use Rattle.safety.proofs.Own.{Own}
 use Rattle.safety.proofs.Reactions.{Reacts, reacts-zero-done, reacts-vote, reacts-reply, reacts-ack, reacts-to-lost}
@@ -87,35 +87,34 @@ noted-subject act.Reenlisted t r tb = refl
 
 -- ── from an outcome's own move to the moves of all ──────────────────────────────────────────────────────────────
 
--- what a step has written
-pub record Written (tb : Table) (log : List ℕ) (s : Step) : Type 0 where
-  pub records : List Record
-  pub valid : Each Valid records
-  pub bytes : usedPart (s .table) (s .log) ≡ usedPart tb log ++ allBytes records
-  pub judged : Judged tb log (s .table .used) records
-
 record Moved (tb : Table) (e : Event) (log : List ℕ) (o : Outcome) : Type 0 where
   accepts : Accepted viewOf storyOf Formed tb e log (doneStep o)
-  written : Written tb log (doneStep o)
+  written : Written tb log (o .table) (o .log)
 
-own-all : (tb : Table) (e : Event) (log : List ℕ) (o : Outcome) → Formed (usedPart tb log) → Own tb e log (subjectOf tb e) o → Moved tb e log o
-own-all tb e log o f w = record {
-  written = record { records = w .records; valid = w .valid; bytes = w .bytes; judged = w .judged };
+accept : (tb : Table) (e : Event) (log : List ℕ) (o : Outcome) → Formed (usedPart tb log) → (w : Written tb log (o .table) (o .log))
+    → ((h : List Note) → Makes careful h e → (t : Id) → Agrees (viewOf t tb) (storyOf t (usedPart tb log))
+    → Move t h (noteOf tb e) (map (messageOf tb e) (o .signals)) (storyOf t (usedPart tb log)) (story t (storyOf t (usedPart tb log)) (w .records)) (viewOf t tb) (viewOf t (o .table)))
+    → Moved tb e log o
+accept tb e log o f w moves = record {
+  written = w;
   accepts = record {
-    formed = rw (w .bytes) (formed-append (usedPart tb log) f (w .records) (w .valid));
+    formed = formed-append f (w .records) (w .valid) (w .bytes);
     added = allBytes (w .records);
     appended = w .bytes;
-    moves = λ h made t a. rw (w .bytes, story-more t (usedPart tb log) f (w .records) (w .valid)) (by-test (sameBytes t (subjectOf tb e))
-        (λ b. own h made t (same-equal t (subjectOf tb e) b) a)
-        (λ b. other h t (λ q. no-clash (sameBytes t (subjectOf tb e)) (rw q (same-refl (subjectOf tb e))) b)));
+    moves = λ h made t a. rw (w .bytes, story-more t (usedPart tb log) f (w .records) (w .valid)) (moves h made t a);
   };
 }
+
+own-all : (tb : Table) (e : Event) (log : List ℕ) (o : Outcome) → Formed (usedPart tb log) → Own tb e log (subjectOf tb e) o → Moved tb e log o
+own-all tb e log o f w = accept tb e log o f (w .wrote) (λ h made t a. by-test (sameBytes t (subjectOf tb e))
+    (λ b. own h made t (same-equal t (subjectOf tb e) b) a)
+    (λ b. other h t (λ q. no-clash (sameBytes t (subjectOf tb e)) (rw q (same-refl (subjectOf tb e))) b)))
   where
     l : Id → Story
     l t = storyOf t (usedPart tb log)
 
     Moves : List Note → Id → Type 0
-    Moves h t = Move t h (noteOf tb e) (map (messageOf tb e) (o .signals)) (l t) (story t (l t) (w .records)) (viewOf t tb) (viewOf t (o .table))
+    Moves h t = Move t h (noteOf tb e) (map (messageOf tb e) (o .signals)) (l t) (story t (l t) (w .wrote .records)) (viewOf t tb) (viewOf t (o .table))
 
     own : (h : List Note) → Makes careful h e → (t : Id) → t ≡ subjectOf tb e → Agrees (viewOf t tb) (l t) → Moves h t
     own h made t q a = subst (λ t. Agrees (viewOf t tb) (l t) → Moves h t) (sym q) (λ a. w .move h made (l (subjectOf tb e)) a) a
@@ -127,15 +126,9 @@ own-all tb e log o f w = record {
 reenlisted-all : (tb : Table) (x : TxId) (y : RmId) (log : List ℕ) → Sound tb → length log ≡ tb .capacity → Formed (usedPart tb log)
     → Moved tb (record { tx = x; rm = y; act = act.Reenlisted }) log (reenlistedOf (y .0) tb log)
 unfolding after told
-reenlisted-all tb x y log s full f = rw (reenlisted-is (y .0) tb log s full) (record {
-  written = record { records = rs; valid = valid; bytes = bytes; judged = reenlisted-judged (y .0) tb log s full };
-  accepts = record {
-    formed = rw bytes (formed-append (usedPart tb log) f rs valid);
-    added = allBytes rs;
-    appended = bytes;
-    moves = λ h made t a. rw (bytes, story-more t (usedPart tb log) f rs valid, end-each-quiet places table log) (reenlisted-move (y .0) tb log s full t h (storyOf t (usedPart tb log)) a);
-  };
-})
+reenlisted-all tb x y log s full f = rw (reenlisted-is (y .0) tb log s full) (accept tb (record { tx = x; rm = y; act = act.Reenlisted }) log (endEach places table log) f
+    (record { records = rs; valid = valid; bytes = bytes; judged = reenlisted-judged (y .0) tb log s full })
+    (λ h made t a. rw (end-each-quiet places table log) (reenlisted-move (y .0) tb log s full t h (storyOf t (usedPart tb log)) a)))
   where
     table : Table
     table = after (y .0) tb log s full
@@ -210,7 +203,7 @@ done tb e log q = sym (step-refusal tb e log) ∙ eqb-true (stepOf tb e log .ref
 pub step-accepts : (tb : Table) (e : Event) (log : List ℕ) → eqb (stepOf tb e log .refusal) 0 ≡ true → Formed (usedPart tb log) → Accepted viewOf storyOf Formed tb e log (stepOf tb e log)
 step-accepts tb e log q f = rw (step-done tb e log (done tb e log q)) (moved tb (e .tx) (e .rm) log f (e .act) (accepted tb e (length log) (done tb e log q)) .accepts)
 
-pub step-writes : (tb : Table) (e : Event) (log : List ℕ) → eqb (stepOf tb e log .refusal) 0 ≡ true → Formed (usedPart tb log) → Written tb log (stepOf tb e log)
+pub step-writes : (tb : Table) (e : Event) (log : List ℕ) → eqb (stepOf tb e log .refusal) 0 ≡ true → Formed (usedPart tb log) → Written tb log (stepOf tb e log .table) (stepOf tb e log .log)
 step-writes tb e log q f = rw (step-done tb e log (done tb e log q)) (moved tb (e .tx) (e .rm) log f (e .act) (accepted tb e (length log) (done tb e log q)) .written)
 
 pub step-refuses : (tb : Table) (e : Event) (log : List ℕ) → eqb (stepOf tb e log .refusal) 0 ≡ false → Refused tb log (stepOf tb e log)

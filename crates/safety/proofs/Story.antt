@@ -104,16 +104,16 @@ pub story-formed : (t : Id) (bs : List ℕ) (f : Formed bs) → storyOf t bs ≡
 unfolding storyOf
 story-formed t bs f = ap (λ l. story t none (scan 0 (drop headerSize l))) (f .bytes) ∙ ap (λ l. story t none (scan 0 l)) (sym (append-nil (allBytes (f .records)))) ∙ ap (story t none) (scan-all (f .records) (f .valid) torn-nothing)
 
-pub formed-append : (bs : List ℕ) (f : Formed bs) (rs : List Record) → Each Valid rs → Formed (bs ++ allBytes rs)
-formed-append bs f rs v = record {
+unfoldable pub formed-append : {bs cs : List ℕ} (f : Formed bs) (rs : List Record) → Each Valid rs → cs ≡ bs ++ allBytes rs → Formed cs
+formed-append f rs v e = record {
   records = f .records ++ rs;
   valid = each-both (f .records) rs (f .valid) v;
-  bytes = ap (λ l. l ++ allBytes rs) (f .bytes) ∙ append-assoc header (allBytes (f .records)) (allBytes rs) ∙ ap (λ l. header ++ l) (sym (all-append (f .records) rs));
+  bytes = e ∙ ap (λ l. l ++ allBytes rs) (f .bytes) ∙ append-assoc header (allBytes (f .records)) (allBytes rs) ∙ ap (λ l. header ++ l) (sym (all-append (f .records) rs));
 }
 
 pub story-more : (t : Id) (bs : List ℕ) (f : Formed bs) (rs : List Record) → Each Valid rs → storyOf t (bs ++ allBytes rs) ≡ story t (storyOf t bs) rs
 unfolding formed-append
-story-more t bs f rs v = story-formed t (bs ++ allBytes rs) (formed-append bs f rs v) ∙ story-append t none (f .records) rs ∙ ap (λ s. story t s rs) (sym (story-formed t bs f))
+story-more t bs f rs v = story-formed t (bs ++ allBytes rs) (formed-append f rs v refl) ∙ story-append t none (f .records) rs ∙ ap (λ s. story t s rs) (sym (story-formed t bs f))
 
 -- ── the open transactions of a restart ──────────────────────────────────────────────────────────────────────────
 
