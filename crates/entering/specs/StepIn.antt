@@ -6,6 +6,7 @@ use mathlib.Core.List.{List}
 use lib.ListN.{length}
 use Rattle.rules.specs.declared.Table.{Table}
 use Rattle.rules.specs.declared.Event.{Event}
+use Rattle.rules.specs.Sizes.{transactionPlaces, enlistmentPlaces}
 use Rattle.rules.specs.Sound.{soundOf}
 use Rattle.rules.specs.Signals.{rowOf}
 use Rattle.rules.specs.Events.{Outcome, acceptedOf}
@@ -16,8 +17,8 @@ use Rattle.entering.specs.declared.Answer.{Answer}
 
 -- What `step_in` promises: the memory means the table that the step gives, whose capacity stays.
 pub record IsStepIn (tb : Table) (e : Event) (before : List ℕ) (r : Answer) (heads rows : List (List ℕ)) (after : List ℕ) : Type 0 where
-  pub long-heads : length heads ≡ 32
-  pub long-rows : length rows ≡ 128
+  pub long-heads : length heads ≡ transactionPlaces
+  pub long-rows : length rows ≡ enlistmentPlaces
   pub table : tableIn heads rows (tb .capacity) (r .used) ≡ stepOf tb e before .table
   pub signals : r .signals ≡ rowOf (stepOf tb e before .signals)
   pub refusal : r .refusal ≡ stepOf tb e before .refusal
@@ -25,8 +26,8 @@ pub record IsStepIn (tb : Table) (e : Event) (before : List ℕ) (r : Answer) (h
 
 -- the memory holds a sound table
 pub record Fine (heads rows : List (List ℕ)) (capacity used : ℕ) : Type 0 where
-  pub long-heads : length heads ≡ 32
-  pub long-rows : length rows ≡ 128
+  pub long-heads : length heads ≡ transactionPlaces
+  pub long-rows : length rows ≡ enlistmentPlaces
   pub sound : soundOf (tableIn heads rows capacity used) ≡ true
 
 -- the step of each event that these checks refuse, and that else has this outcome

@@ -87,4 +87,4 @@ sound-few tb s p low = by-test (eqb (stateAt p tb) 0)
 pub fine-ready : {heads rows : List (List ℕ)} {capacity used : ℕ} → Fine heads rows capacity used → ReadyIn heads rows capacity used
 fine-ready {heads} {rows} {capacity} {used} f =
     let s : Sound (tableIn heads rows capacity used) = sound-sentences (tableIn heads rows capacity used) (f .sound) in
-    record { heads-long = f .long-heads; rows-long = f .long-rows; used-first = omega (arith, s .room, s .capacity-small); few = sound-few (tableIn heads rows capacity used) s }
+    record { long-heads = f .long-heads; long-rows = f .long-rows; used-first = omega (arith, s .room, s .capacity-small); few = sound-few (tableIn heads rows capacity used) s }

@@ -217,10 +217,8 @@ pub fn on_event(
     ensures { λ r. ⌜ IsStepIn (tableIn (now (heads .entry)) (now (rows .entry)) capacity used) event (now (log .entry)) r (now (heads .exit)) (now (rows .exit)) (now (log .exit)) ⌝ }
 {
     let act = event.act;
-    let t = event.tx;
-    let id = t.0;
-    let m = event.rm;
-    let rm = m.0;
+    let id = event.tx.0;
+    let rm = event.rm.0;
     match act {
         Act::Begin => entering::begin(heads, rows, capacity, used, id),
         Act::Enlist(n, kind, mark) => entering::enlist(

@@ -63,22 +63,22 @@ pub record Ended (n : ℕ) (ps : List ℕ) (tb₀ : Table) (log₀ : List ℕ) (
   pub long : length ps ≡ n
   pub places : Each Placed ps
   pub size : length log ≡ length log₀
-  pub heads-long : length heads ≡ transactionPlaces
-  pub rows-long : length rows ≡ enlistmentPlaces
+  pub long-heads : length heads ≡ transactionPlaces
+  pub long-rows : length rows ≡ enlistmentPlaces
   pub used-most : used ≤ tb₀ .used + commitSize signalsMost * i
   pub few : Few (tableIn heads rows capacity used)
   pub same : endEach ps tb₀ log₀ ≡ endEach (drop i ps) (tableIn heads rows capacity used) log
 
 pub ended-start : {n : ℕ} {ps : List ℕ} {log : List ℕ} {capacity used : ℕ} {heads rows : List (List ℕ)} → length ps ≡ n → Each Placed ps → ReadyIn heads rows capacity used
     → Ended n ps (tableIn heads rows capacity used) log capacity heads rows log used 0
-ended-start l h r = record { within = omega arith; long = l; places = h; size = refl; heads-long = r .heads-long; rows-long = r .rows-long; used-most = omega arith; few = r .few; same = refl }
+ended-start l h r = record { within = omega arith; long = l; places = h; size = refl; long-heads = r .long-heads; long-rows = r .long-rows; used-most = omega arith; few = r .few; same = refl }
 
 module _ {n : ℕ} {ps : List ℕ} {tb₀ : Table} {log₀ : List ℕ} {capacity : ℕ} {heads rows : List (List ℕ)} {log : List ℕ} {used i : ℕ} (e : Ended n ps tb₀ log₀ capacity heads rows log used i) where
   pub ended-done : n ≤ i → LeavesIn (endEach ps tb₀ log₀) heads rows capacity used log
   unfolding endEach
   ended-done h =
       let q : endEach ps tb₀ log₀ ≡ quietly (tableIn heads rows capacity used) log = rw (drop-done ps i (omega (arith, e .long))) at (e .same) in
-      record { heads-long = e .heads-long; rows-long = e .rows-long; table = sym (ap (λ o. o .table) q); log = sym (ap (λ o. o .log) q) }
+      record { long-heads = e .long-heads; long-rows = e .long-rows; table = sym (ap (λ o. o .table) q); log = sym (ap (λ o. o .log) q) }
 
   module _ (more : i < n) (p : ℕ) (here : p ≡ getD ps i 0) where
     next : drop i ps ≡ p ∷ drop (i + 1) ps
@@ -107,8 +107,8 @@ module _ {n : ℕ} {ps : List ℕ} {tb₀ : Table} {log₀ : List ℕ} {capacity
       long = e .long;
       places = e .places;
       size = s ∙ e .size;
-      heads-long = hl;
-      rows-long = rl;
+      long-heads = hl;
+      long-rows = rl;
       used-most = omega (arith, e .used-most, u, ap (λ g. g .used) t);
       few = rw table (end-few p tb log (e .few));
       same = rw (table, l .log ∙ sym (ap (λ o. o .log) whole)) (rw next at (e .same));
@@ -124,7 +124,7 @@ module _ {n : ℕ} {ps : List ℕ} {tb₀ : Table} {log₀ : List ℕ} {capacity
         whole : endOf p tb log ≡ through (Within.within tb p) (endOf p (alone (taken p 0 tb)) log)
         whole =
             ap (λ t. endOf p t log) (sym (taken-back p 0 tb (ended-place .0) (ended-place .1) ended-few))
-            ∙ end-through (passes-through tb p (record { low = ended-place .0; high = omega (arith, ended-place .1, length-map heads transactionIn ∙ e .heads-long) })) (alone (taken p 0 tb)) log (taken-fits p 0 tb (ended-place .0) (ended-place .1) ended-few)
+            ∙ end-through (passes-through tb p (record { low = ended-place .0; high = omega (arith, ended-place .1, length-map heads transactionIn ∙ e .long-heads) })) (alone (taken p 0 tb)) log (taken-fits p 0 tb (ended-place .0) (ended-place .1) ended-few)
 
         table : tableIn heads′ rows′ capacity (h′ .used) ≡ endOf p tb log .table
         table = put-within heads rows heads′ rows′ capacity used h′ (subst Placed (sym (l .place)) ended-place) he re ∙ ap (λ t. Within.within tb (h′ .place) t) (l .table) ∙ ap (λ q. Within.within tb q (endOf p (alone (taken p 0 tb)) log .table)) (l .place) ∙ sym (ap (λ o. o .table) whole)
@@ -152,14 +152,14 @@ module _ (rm : Id) {heads rows : List (List ℕ)} (rows′ : List (List ℕ)) {c
   done-table = ap (λ es. record { transactions = map transactionIn heads; enlistments = es; capacity = capacity; used = used }) (e ∙ ap (λ u. u .enlistments) done-is)
 
   pub done-ready : ReadyIn heads rows′ capacity used
-  done-ready = record { heads-long = ready .heads-long; rows-long = long; used-first = ready .used-first; few = subst Few (sym done-table) (done-few rm (tableIn heads rows capacity used) (ready .few)) }
+  done-ready = record { long-heads = ready .long-heads; long-rows = long; used-first = ready .used-first; few = subst Few (sym done-table) (done-few rm (tableIn heads rows capacity used) (ready .few)) }
 
   module _ {o : Order} (q : o ≡ orderOf (finished done)) (few : o .count ≤ transactionPlaces) where
     ordered : take (o .count) (o .items) ≡ finished (doneTable rm (tableIn heads rows capacity used))
     ordered = order-take (finished done) q few ∙ ap finished done-is
 
     pub done-placed : Each Placed (take (o .count) (o .items))
-    done-placed = subst (Each Placed) (sym ordered) (finished-placed (doneTable rm (tableIn heads rows capacity used)) (length-map heads transactionIn ∙ ready .heads-long))
+    done-placed = subst (Each Placed) (sym ordered) (finished-placed (doneTable rm (tableIn heads rows capacity used)) (length-map heads transactionIn ∙ ready .long-heads))
 
     pub done-leaves : (log : List ℕ) {heads″ rows″ : List (List ℕ)} {u : ℕ} {out : List ℕ} → LeavesIn (endEach (take (o .count) (o .items)) (tableIn heads rows′ capacity used) log) heads″ rows″ capacity u out
         → LeavesIn (reenlistedOf rm (tableIn heads rows capacity used) log) heads″ rows″ capacity u out

@@ -4,6 +4,7 @@ use mathlib.Core.Path.{_≡_}
 use mathlib.Core.Bool.{true}
 use mathlib.Core.List.{List}
 use lib.ListN.{length, take, drop}
+use Rattle.rules.specs.Sizes.{transactionPlaces, enlistmentPlaces}
 use Rattle.rules.specs.Sound.{soundOf}
 use Rattle.rules.specs.Restart.{restartOf}
 use Rattle.trace_parts.specs.Puts.{outputMost}
@@ -24,8 +25,8 @@ pub record Stands (w : Stand) (s : Session) (heads rows : List (List ℕ)) (log 
 -- what is said of the table, lent memory, and counts that stay within it
 pub record Fits (s : Session) (heads rows : List (List ℕ)) (line output : List ℕ) : Type 0 where
   pub sound : s .sound ≡ soundOf (tableIn heads rows (s .capacity) (s .used))
-  pub long-heads : length heads ≡ 32
-  pub long-rows : length rows ≡ 128
+  pub long-heads : length heads ≡ transactionPlaces
+  pub long-rows : length rows ≡ enlistmentPlaces
   pub kept : s .kept ≤ lineKept
   pub waiting : s .waiting ≤ room
   pub line-long : length line ≡ lineKept
@@ -77,8 +78,8 @@ pub record Finishes (s : Session) (heads rows : List (List ℕ)) (log line outpu
 
 -- the table of a restart on a log that holds nothing
 pub record Starts (log : List ℕ) (r : Session) (heads rows : List (List ℕ)) (log′ : List ℕ) : Type 0 where
-  pub long-heads : length heads ≡ 32
-  pub long-rows : length rows ≡ 128
+  pub long-heads : length heads ≡ transactionPlaces
+  pub long-rows : length rows ≡ enlistmentPlaces
   pub table : tableIn heads rows (r .capacity) (r .used) ≡ restartOf log 0 .table
   pub sound : r .sound ≡ soundOf (tableIn heads rows (r .capacity) (r .used))
   pub stored : log′ ≡ restartOf log 0 .log

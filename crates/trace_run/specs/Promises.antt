@@ -7,6 +7,7 @@ use lib.ListN.{length}
 use lib.Seq.{sets}
 use Rattle.rules.specs.declared.Table.{Table}
 use Rattle.rules.specs.declared.Signals.{Signals}
+use Rattle.rules.specs.Sizes.{transactionPlaces, enlistmentPlaces}
 use Rattle.rules.specs.Trace.{Traced}
 use Rattle.trace_line.specs.Promises.{IsWriting, newline}
 use Rattle.trace_parts.specs.Puts.{outputMost}
@@ -16,8 +17,8 @@ use Rattle.trace_run.specs.declared.Obeyed.{Obeyed}
 
 -- lent memory, which holds this table
 pub record Holds (heads rows : List (List ℕ)) (tb : Table) : Type 0 where
-  pub long-heads : length heads ≡ 32
-  pub long-rows : length rows ≡ 128
+  pub long-heads : length heads ≡ transactionPlaces
+  pub long-rows : length rows ≡ enlistmentPlaces
   pub table : tableIn heads rows (tb .capacity) (tb .used) ≡ tb
 
 -- these numbers of the table, with what is known of it, and an output line with this refusal and these signals
@@ -38,8 +39,8 @@ pub record Obeys (t : Traced) (before : List ℕ) (o : Obeyed) (log after : List
 
 -- the same, where the table is in lent memory
 pub record ObeysIn (t : Traced) (before : List ℕ) (r : Left) (heads rows : List (List ℕ)) (log after : List ℕ) : Type 0 where
-  pub long-heads : length heads ≡ 32
-  pub long-rows : length rows ≡ 128
+  pub long-heads : length heads ≡ transactionPlaces
+  pub long-rows : length rows ≡ enlistmentPlaces
   pub table : tableIn heads rows (r .capacity) (r .used) ≡ t .table
   pub left : log ≡ t .log
   pub sized : r .size ≡ length (t .output ++ (newline ∷ []))

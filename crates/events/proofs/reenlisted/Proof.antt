@@ -28,7 +28,7 @@ reenlisted-spec =
     let tb = tableIn (a .heads .now) (a .rows .now) (a .capacity) (a .used) in
     let q = reenlisted-found tb (a .rm) (e .reenlisted .ensures) (elsewhere-any (a .rm) tb (e .before .place-elsewhere .ensures) (e .before .before .table-in .ensures)) in
     let l = c .before .before .before .reenlisted2 .ensures in
-    done-does (a .heads .now) (a .rows .now) (a .capacity) (a .used) (reenlistedChecks tb (a .rm)) (reenlistedOf (a .rm) tb (a .log .now)) (a .log .now) (e .reenlisted .result) q (c .before .before .before .before .before .before .before .if1 .taken) (l .heads-long) (l .rows-long) (l .table) (ap rowOf (sym (reenlisted-quiet (a .rm) tb (a .log .now)))) (l .log) (c .silent .ensures))
+    done-does (a .heads .now) (a .rows .now) (a .capacity) (a .used) (reenlistedChecks tb (a .rm)) (reenlistedOf (a .rm) tb (a .log .now)) (a .log .now) (e .reenlisted .result) q (c .before .before .before .before .before .before .before .if1 .taken) (l .long-heads) (l .long-rows) (l .table) (ap rowOf (sym (reenlisted-quiet (a .rm) tb (a .log .now)))) (l .log) (c .silent .ensures))
     (λ c κs. search needs)
     (λ c. let e = c .before .before in
     let s = e .before .before .before .before .before .before in
