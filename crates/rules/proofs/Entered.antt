@@ -78,7 +78,7 @@ new-kind p s n r asked.Durable marking.No = ((inr (inr refl), omega arith), λ z
 new-kind p s n r asked.Durable marking.Yes = ((inr (inr refl), omega arith), λ z. absurd (omega arith))
 
 module _ (e : Enlistment) (tb : Table) where
-  abbrev pub after : Table
+  abbrev after : Table
   after = withEnlistments (putLowest isVacant e (tb .enlistments)) tb
 
   each-put : (P : Enlistment → Type 0) → P e → Each P (held (e .holder) tb) → Each P (held (e .holder) after)
