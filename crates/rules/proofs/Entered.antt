@@ -86,7 +86,7 @@ module _ (e : Enlistment) (tb : Table) where
       let (i, h) = of-held (e .holder) after m in
       by-either (λ q. subst P (sym q) one) (λ q. rest x (in-held (e .holder) tb q h)) (of-put isVacant e (tb .enlistments) i)
 
-  some-put : {P : Enlistment → Type 0} → Held e → Some P (held (e .holder) tb) → Some P (held (e .holder) after)
+  pub some-put : {P : Enlistment → Type 0} → Held e → Some P (held (e .holder) tb) → Some P (held (e .holder) after)
   some-put n s =
       let (i, h) = of-held (e .holder) tb (s .there) in
       record { it = s .it; there = in-held (e .holder) after (put-keeps isVacant e (tb .enlistments) i (ne-eqb _ 0 (λ z. n (sym h ∙ z)))) h; holds = s .holds }

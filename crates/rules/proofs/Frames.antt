@@ -99,7 +99,7 @@ held-transaction p q f tb = refl
 
 -- ── a name at a place ───────────────────────────────────────────────────────────────────────────────────────────
 
-pub by-place : {C : Type 0} (p : ℕ) (xs : List Transaction) → (IsPlace xs p → C) → (at noTransaction p xs ≡ noTransaction → C) → C
+by-place : {C : Type 0} (p : ℕ) (xs : List Transaction) → (IsPlace xs p → C) → (at noTransaction p xs ≡ noTransaction → C) → C
 by-place p xs f g = by-either f g (place-or-nothing noTransaction p xs)
 
 pub named-is : (t : Id) (x : Transaction) → isNamed t x ≡ true → (isLive x ≡ true) × (x .id .0 ≡ t)

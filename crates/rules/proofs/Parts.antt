@@ -125,6 +125,9 @@ end-if-done-part p tb log k l h = by-test (all isDone (held p tb))
 abbrev pub moved : ℕ → ℕ → (Enlistment → Enlistment) → Table → Table
 moved p s f tb = goTo p s (changeHeld p f tb)
 
+pub used-moved : (p s : ℕ) (f : Enlistment → Enlistment) (tb : Table) → moved p s f tb .used ≡ tb .used
+used-moved p s f tb = used-transaction p (inTransactionState s) (changeHeld p f tb) ∙ used-held p f tb
+
 module _ (p s : ℕ) (f : Enlistment → Enlistment) (tb : Table) (k : Kept tb) (l : Live (transactionAt p tb)) (keeps : KeepsHeld f) where
   live-changed : Live (transactionAt p (changeHeld p f tb))
   live-changed = rw (at-changed p p f tb) l
@@ -147,14 +150,11 @@ module _ (p s : ℕ) (f : Enlistment → Enlistment) (tb : Table) (k : Kept tb) 
   open-moved : openAt p (moved p s f tb) ≡ isOpen s (held p (changeHeld p f tb))
   open-moved = ap (λ z. isOpen z (held p (moved p s f tb))) state-moved ∙ ap (λ hs. isOpen s hs) held-moved
 
-  used-moved : moved p s f tb .used ≡ tb .used
-  used-moved = used-transaction p (inTransactionState s) (changeHeld p f tb) ∙ used-held p f tb
-
   well-moved : HoldsWell s (held p (changeHeld p f tb)) → HoldsWell (stateAt p (moved p s f tb)) (held p (moved p s f tb))
   well-moved w = subst (λ z. HoldsWell z (held p (moved p s f tb))) (sym state-moved) (subst (HoldsWell s) (sym held-moved) w)
 
   room-moved : isOpen s (held p (changeHeld p f tb)) ≡ false → Room tb → Room (moved p s f tb)
-  room-moved c = room-kept p tb (moved p s f tb) only-moved (live-place p tb l) used-moved (λ t. no-clash _ t (open-moved ∙ c))
+  room-moved c = room-kept p tb (moved p s f tb) only-moved (live-place p tb l) (used-moved p s f tb) (λ t. no-clash _ t (open-moved ∙ c))
 
   -- without a record
   pub moved-part : (s ≡ 0 → ⊥) → isOpen s (held p (changeHeld p f tb)) ≡ false → HoldsWell s (held p (changeHeld p f tb)) → Part p tb (moved p s f tb)
@@ -176,7 +176,7 @@ module _ (p s : ℕ) (f : Enlistment → Enlistment) (tb : Table) (k : Kept tb) 
           (λ t. omega (arith, rw t at (open-changes p tb (moved p s f tb) only-moved (live-place p tb l))))
 
       more-room : Room (useMore n (moved p s f tb))
-      more-room = omega (arith, fits, at-most, used-moved, only-moved .same-capacity, open-use n (moved p s f tb))
+      more-room = omega (arith, fits, at-most, used-moved p s f tb, only-moved .same-capacity, open-use n (moved p s f tb))
 
 -- ── Abort ───────────────────────────────────────────────────────────────────────────────────────────────────────
 

@@ -44,7 +44,7 @@ pub record Preserves (tb : Table) (e : Event) (log : List ℕ) (s : Step) : Type
   pub few-signals : length (s .signals) ≤ signalsMost
 
 -- what holds of a step that is done, and of one that is refused, holds of each step
-by-step : (P : Step → Type 0) (tb : Table) (e : Event) (log : List ℕ) → (refusalOf tb e (length log) ≡ refusal.accepted → P (doneStep (acceptedOf tb e log)))
+pub by-step : (P : Step → Type 0) (tb : Table) (e : Event) (log : List ℕ) → (refusalOf tb e (length log) ≡ refusal.accepted → P (doneStep (acceptedOf tb e log)))
     → ((why : ℕ) → P (refusedStep why tb log)) → P (stepOf tb e log)
 by-step P tb e log done refused = by-test (eqb (refusalOf tb e (length log)) refusal.accepted)
     (λ t. let fine : refusalOf tb e (length log) ≡ refusal.accepted = eqb-true _ _ t in rw (step-done tb e log fine) (done fine))

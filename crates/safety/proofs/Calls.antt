@@ -7,12 +7,12 @@ use mathlib.Core.Logic.{_⊎_, inl, inr}
 use mathlib.Core.Bool.{Bool, true, false, cond, _&&_}
 use mathlib.Core.List.{List, [], _∷_, map}
 use lib.Dec.{eqb}
-use borrow.Author.Tests.{eqb-true, eqb-false, ne-eqb}
+use borrow.Author.Tests.{eqb-true, eqb-false}
 use Rattle.lists.specs.Members.{_∈_, Each, Some}
 use Rattle.lists.specs.Lists.{any, filter, firstOr}
-use Rattle.lists.specs.Places.{placeOf, putLowest}
-use Rattle.lists.proofs.Tests.{by-cases, by-test, by-either, no-clash, is-false, true-or, none-each, first-passes, first-none, by-cond}
-use Rattle.lists.proofs.Places.{IsFirst, place-first, put-is, put-there, put-keeps, of-put}
+use Rattle.lists.specs.Places.{putLowest}
+use Rattle.lists.proofs.Tests.{by-cases, by-test, by-either, no-clash, is-false, true-or, none-each, first-passes, first-none, by-cond, each-nothing}
+use Rattle.lists.proofs.Places.{place-first, put-there, of-put}
 use Rattle.rules.specs.declared.Transaction.{Transaction}
 use Rattle.rules.specs.declared.Enlistment.{Enlistment}
 use Rattle.rules.specs.declared.Table.{Table}
@@ -29,12 +29,12 @@ use Rattle.rules.specs.declared.Name.the-variants as name
 use Rattle.rules.specs.TransactionState as transaction
 use Rattle.rules.specs.EnlistmentState as enlistment
 use Rattle.rules.specs.Identifiers.{Id}
-use Rattle.rules.specs.Table.{noTransaction, noEnlistment, isLive, isFree, isNamed, placeNamed, transactionAt, stateAt, isVacant, held, isPhaseZero, isIn, inState, withTransactions, withEnlistments, changeHeld, changeTransaction, goTo}
+use Rattle.rules.specs.Table.{noTransaction, noEnlistment, isLive, isFree, isNamed, placeNamed, transactionAt, stateAt, isVacant, held, isPhaseZero, isIn, inState, withTransactions, withEnlistments, changeHeld, goTo}
 use Rattle.rules.specs.Sound.{Sound, Durable}
 use Rattle.rules.specs.Signals.{signal, toEach, Committed}
 use Rattle.rules.specs.Events.{quietly, saying, abortOf, beginOf, kindOf, zeroAtOnce, newEnlistment, enlistOf, zeroedOf, commitOf, isUndone, isOver, toldAgain, askOf}
 use Rattle.rules.proofs.Identifiers.{same-refl}
-use Rattle.rules.proofs.Frames.{of-held, in-held, held-came, held-own, named-is, named-other, named-found, none-absent, not-zero, Stands, Absent, at-own, at-other}
+use Rattle.rules.proofs.Frames.{of-held, in-held, held-came, held-own, named-is, named-other, named-found, none-absent, Stands, Absent}
 use Rattle.safety.specs.World.{Note, told, messageOf}
 use Rattle.safety.specs.Host.{Prepares, MayAsk}
 use Rattle.safety.specs.Demand3.{Votes}
@@ -45,12 +45,15 @@ use Rattle.safety.proofs.Top.{Agrees}
 use Rattle.safety.proofs.View.{viewOf, look, view-in, view-stands, view-absent, view-goes, goes-other, view-changes, state-none, view-only, held-other}
 use Rattle.safety.proofs.Given.{stands-sound, owner-held}
 use Rattle.safety.proofs.Messages.{notCommitted, notAborted, Only, only-nothing, only-one, only-each, Addressed, Owned, addressed-nothing, addressed-one, addressed-neutral, none-committed, none-aborted, quiet}
-use Rattle.safety.proofs.Own.{Own, unwritten, unlogged, used-goes, own-abort, own-start}
+use Rattle.safety.proofs.Own.{Own, unwritten, unlogged, own-abort, own-start}
 use Rattle.safety.proofs.Reactions.{held-votes, untouched}
 use Rattle.rules.proofs.Told.{told-key, told-keeps}
 use Rattle.rules.proofs.Phases.{zeroed-key, zeroes}
-use Rattle.rules.proofs.Kept.{SameKey}
-use Rattle.rules.proofs.Only.{only-transaction, only-enlist}
+use Rattle.rules.proofs.Kept.{SameKey, sound-kept}
+use Rattle.rules.proofs.Only.{only-enlist, only-begin, used-held}
+use Rattle.rules.proofs.Parts.{used-moved}
+use Rattle.rules.proofs.Put.{freePlace, at-new, at-others, new-holds-nothing}
+use Rattle.rules.proofs.Entered.{some-put}
 
 module _ (tb : Table) (log : List ℕ) (s : Sound tb) (x : TxId) (y : RmId) where
   abbrev pub t : Id
@@ -75,14 +78,14 @@ module _ (tb : Table) (log : List ℕ) (s : Sound tb) (x : TxId) (y : RmId) wher
     new = record { id = x; state = transaction.active }
 
     abbrev q : ℕ
-    q = placeOf isFree (tb .transactions)
+    q = freePlace tb
 
     begun : Table
-    begun = changeTransaction q (λ w. new) tb
+    begun = withTransactions (putLowest isFree new (tb .transactions)) tb
 
     begin-is : beginOf t tb log ≡ quietly begun log
-    unfolding beginOf new begun changeTransaction
-    begin-is = ap (λ xs. quietly (withTransactions xs tb) log) (put-is isFree new (tb .transactions))
+    unfolding beginOf new begun
+    begin-is = refl
 
     nobody : (u : Id) → isNamed u (transactionAt q tb) ≡ false
     nobody u = is-false (isNamed u (transactionAt q tb)) (λ e. no-clash (isLive (transactionAt q tb)) (named-is u (transactionAt q tb) e .0) (rw (place-first isFree noTransaction (tb .transactions) room .passes) refl))
@@ -92,34 +95,27 @@ module _ (tb : Table) (log : List ℕ) (s : Sound tb) (x : TxId) (y : RmId) wher
 
     stands-at : transactionAt q begun ≡ new
     unfolding begun
-    stands-at = at-own q (λ w. new) tb (place-first isFree noTransaction (tb .transactions) room .is-place)
+    stands-at = at-new new tb room
 
     at : Stands t q begun
     unfolding begun new
-    at = record { here = rw stands-at (same-refl t); alone = λ w e. by-test (eqb w q) (λ c. eqb-true w q c) (λ c. no-clash (isNamed t (transactionAt w tb)) (ap (isNamed t) (sym (at-other q (λ w. new) tb w (eqb-false w q c))) ∙ e) (absent .nowhere w)) }
+    at = record { here = rw stands-at (same-refl t); alone = λ w e. by-test (eqb w q) (λ c. eqb-true w q c) (λ c. no-clash (isNamed t (transactionAt w tb)) (ap (isNamed t) (sym (at-others new tb room w (eqb-false w q c))) ∙ e) (absent .nowhere w)) }
 
     used-begun : begun .used ≡ tb .used
-    unfolding begun changeTransaction
+    unfolding begun
     used-begun = refl
 
     begun-other : (u : Id) → (u ≡ t → ⊥) → viewOf u begun ≡ viewOf u tb
     unfolding begun new
-    begun-other u d = view-only u q tb begun (only-transaction q (λ w. new) tb) (nobody u) (ap (isNamed u) stands-at ∙ is-false (isNamed u new) (λ e. d (sym (named-is u new e .1))))
+    begun-other u d = view-only u q tb begun (only-begin new tb room) (nobody u) (ap (isNamed u) stands-at ∙ is-false (isNamed u new) (λ e. d (sym (named-is u new e .1))))
 
     begun-view : viewOf t begun ≡ early (held q begun)
     unfolding new
     begun-view = view-stands t q begun at ∙ ap (λ (w : Transaction). look (w .state) (held q begun)) stands-at
 
-    -- what is held names a live transaction, and this place was free
     none-yet : Each (λ _. ⊥) (held q begun)
-    unfolding begun changeTransaction
-    none-yet e m = s .holders-live e (w .0) (λ z. not-zero (free .is-place) (sym (w .1) ∙ z)) (rw (w .1) (eqb-true (transactionAt q tb .state) 0 (free .passes)))
-      where
-        free : IsFirst isFree noTransaction (tb .transactions) q
-        free = place-first isFree noTransaction (tb .transactions) room
-
-        w : (e ∈ tb .enlistments) × (e .holder ≡ q)
-        w = of-held q begun m
+    unfolding begun held
+    none-yet = subst (Each (λ _. ⊥)) (sym (new-holds-nothing new tb room (sound-kept s))) (each-nothing (λ _. ⊥))
 
     own-begun : Own tb (event act.Begin) log t (quietly begun log)
     unfolding told
@@ -147,7 +143,7 @@ module _ (tb : Table) (log : List ℕ) (s : Sound tb) (x : TxId) (y : RmId) wher
     pub own-commit : stateAt p tb ≡ transaction.active → Own tb (event act.Commit) log t (commitOf p tb log)
     unfolding commitOf told
     own-commit state = by-cases (Own tb this-event log t) (any isPhaseZero hs) _ _
-        (λ _. unlogged tb this-event log t p tb (untouched tb s t p at-p) refl tb₂ ss (addressed-neutral tb this-event ss (only-each notCommitted name.Zero phase-zeros refl) (only-each notAborted name.Zero phase-zeros refl)) (used-goes p transaction.phaseZero zeroedOf tb) (λ u d. goes-other t p tb at-p transaction.phaseZero zeroedOf u zeroes d)
+        (λ _. unlogged tb this-event log t p tb (untouched tb s t p at-p) refl tb₂ ss (addressed-neutral tb this-event ss (only-each notCommitted name.Zero phase-zeros refl) (only-each notAborted name.Zero phase-zeros refl)) (used-moved p transaction.phaseZero zeroedOf tb) (λ u d. goes-other t p tb at-p transaction.phaseZero zeroedOf u zeroes d)
         (λ h made l a. rw (view-in t p tb refl transaction.active state, view-goes t p tb at-p transaction.phaseZero zeroedOf (λ q. omega arith))
         (gather refl (nothing-calm t .not-prepared) (quiet t tb this-event ss (only-each notCommitted name.Zero phase-zeros refl) (only-each notAborted name.Zero phase-zeros refl))
         (λ m r k w. held-own (Unasked m r k) (Unasked m r k) p zeroedOf tb (λ e _ q. zeroed-kept (Unasked m r k) (λ e q. q) e q) w)
@@ -203,8 +199,8 @@ module _ (tb : Table) (log : List ℕ) (s : Sound tb) (x : TxId) (y : RmId) wher
       enlisted-view = by-either (λ q. rw q refl) (λ q. rw q refl) state
 
       enlisted-keeps : (P : Enlistment → Type 0) → Some P hs → Some P (held p enlisted)
-      unfolding enlisted
-      enlisted-keeps P h = record { it = h .it; holds = h .holds; there = in-held p enlisted (put-keeps isVacant joined (tb .enlistments) (of-held p tb (h .there) .0) (ne-eqb (h .it .holder) 0 (λ z. live (sym (of-held p tb (h .there) .1) ∙ z)))) (of-held p tb (h .there) .1) }
+      unfolding enlisted joined newEnlistment
+      enlisted-keeps P h = some-put joined tb live h
 
       enlisted-new : joined ∈ held p enlisted
       unfolding enlisted
@@ -278,13 +274,9 @@ module _ (tb : Table) (log : List ℕ) (s : Sound tb) (x : TxId) (y : RmId) wher
       (λ q. inr (owner-held tb s t p (at-p live) (first-passes noEnlistment (isUndone r) hs q .0) .1))
       (λ q. inl (ap (λ (e : Enlistment). e .number) (first-none noEnlistment (isUndone r) hs q)))
 
-  same-used : changeHeld p (toldAgain r) tb .used ≡ tb .used
-  unfolding changeHeld
-  same-used = refl
-
   ask-committing : stateAt p tb ≡ transaction.committing → (p ≡ 0 → ⊥) → Own tb ask log t (saying (signal name.AnswerCommitted answered ∷ []) (quietly (changeHeld p (toldAgain r) tb) log))
   unfolding told
-  ask-committing state live = unlogged tb ask log t p tb (untouched tb s t p (at-p live)) refl (changeHeld p (toldAgain r) tb) (signal name.AnswerCommitted answered ∷ []) (addressed-one tb ask name.AnswerCommitted answered (answered-owned live)) same-used
+  ask-committing state live = unlogged tb ask log t p tb (untouched tb s t p (at-p live)) refl (changeHeld p (toldAgain r) tb) (signal name.AnswerCommitted answered ∷ []) (addressed-one tb ask name.AnswerCommitted answered (answered-owned live)) (used-held p (toldAgain r) tb)
       (λ u d. held-other t p tb (at-p live) (toldAgain r) u (told-keeps r) d)
       (λ h made l a. rw (view-in t p tb refl transaction.committing state, view-changes t p tb (at-p live) (toldAgain r) ∙ ap (λ k. look k (held p (changeHeld p (toldAgain r) tb))) state)
       (told-on refl (nothing-calm t) (none-aborted t tb ask (signal name.AnswerCommitted answered ∷ []) (only-one notAborted name.AnswerCommitted answered refl))

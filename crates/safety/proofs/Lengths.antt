@@ -21,16 +21,15 @@ use Rattle.rules.specs.declared.Reaction.{Reaction}
 use Rattle.rules.specs.declared.Reaction.the-variants as reaction
 use Rattle.rules.specs.TransactionState as transaction
 use Rattle.rules.specs.EnlistmentState as enlistment
-use Rattle.rules.specs.RefusalNumber as refusal
 use Rattle.rules.specs.Identifiers.{Id}
 use Rattle.rules.specs.Table.{stateAt, idAt, isFree, isVacant, held, numbered, isPhaseZero, isDurable, isMarked, isIn, isDone, inState, freed, ended, onHeld, onNumber, inTransactionState, withEnlistments, changeHeld, changeTransaction, changeNumber, goTo, emptied, useMore, placeNamed}
 use Rattle.rules.specs.Sound.{isOpen}
 use Rattle.rules.specs.Log.{Record, recordBytes}
-use Rattle.rules.specs.Events.{Outcome, append, endOf, endIfDone, abortedOf, abortOf, lacksRoom, committedOf, committing, commitRecord, endCommitted, decideOf, startPhaseOne, beginOf, newEnlistment, enlistOf, zeroedOf, commitOf, follow, react, reactedOf, reactionOf, isOver, toldAgain, askOf, doneFor, finished, endEach, reenlistedOf, acted, acceptedOf}
-use Rattle.rules.specs.Refusals.{refusalOf}
-use Rattle.rules.specs.Step.{Step, doneStep, refusedStep, stepOf}
+use Rattle.rules.specs.Events.{Outcome, append, endOf, endIfDone, abortedOf, abortOf, lacksRoom, committedOf, committing, commitRecord, endCommitted, decideOf, startPhaseOne, beginOf, newEnlistment, enlistOf, zeroedOf, commitOf, follow, react, reactedOf, reactionOf, isOver, toldAgain, askOf, doneFor, finished, endEach, reenlistedOf, acted}
+use Rattle.rules.specs.Step.{stepOf}
 use Rattle.rules.proofs.Frames.{length-written}
 use Rattle.lists.proofs.Tests.{by-cases}
+use Rattle.rules.proofs.Preserved.{by-step}
 
 pub record Same (tb : Table) (log : List ℕ) (tb′ : Table) (log′ : List ℕ) : Type 0 where
   pub transactions : length (tb′ .transactions) ≡ length (tb .transactions)
@@ -150,13 +149,8 @@ module _ (tb₀ : Table) (log₀ : List ℕ) where
   acted-same act.Ask t r tb log s = ask-same (placeNamed t tb) r tb log s
   acted-same act.Reenlisted t r tb log s = reenlisted-same r tb log s
 
-record SameStep (tb : Table) (log : List ℕ) (s : Step) : Type 0 where
-  is : Same tb log (s .table) (s .log)
-
 pub step-same : (tb : Table) (e : Event) (log : List ℕ) → Same tb log (stepOf tb e log .table) (stepOf tb e log .log)
-unfolding stepOf
-step-same tb e log = by-cases (SameStep tb log) (eqb (refusalOf tb e (length log)) refusal.accepted) (doneStep (acceptedOf tb e log)) (refusedStep (refusalOf tb e (length log)) tb log)
-    (λ _. record { is = acted-same tb log (e .act) (e .tx .0) (e .rm .0) tb log at-first .is }) (λ _. record { is = at-first }) .is
+step-same tb e log = by-step (λ s. Same tb log (s .table) (s .log)) tb e log (λ fine. acted-same tb log (e .act) (e .tx .0) (e .rm .0) tb log at-first .is) (λ why. at-first)
   where
     at-first : Same tb log tb log
     at-first = record { transactions = refl; enlistments = refl; capacity = refl; bytes = refl }

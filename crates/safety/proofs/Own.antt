@@ -25,7 +25,7 @@ use Rattle.rules.specs.TransactionState as transaction
 use Rattle.rules.specs.EnlistmentState as enlistment
 use Rattle.rules.specs.Sizes.{identifierSize, largestNumber, recordSize}
 use Rattle.rules.specs.Identifiers.{Id, sameBytes}
-use Rattle.rules.specs.Table.{transactionAt, stateAt, idAt, held, isDurable, isMarked, isIn, isDone, inState, changeHeld, changeTransaction, goTo, emptied, useMore}
+use Rattle.rules.specs.Table.{transactionAt, stateAt, idAt, held, isDurable, isMarked, isIn, isDone, inState, changeHeld, goTo, emptied, useMore}
 use Rattle.rules.specs.Sound.{openCount, Durable, Live}
 use Rattle.rules.specs.Log.{Entry, Record, recordBytes, entriesBytes, allBytes, commitSize, forgetSize, written}
 use Rattle.rules.specs.Restart.{Open, isOpenAs, afterRecord, openAfter, allFitting}
@@ -34,7 +34,7 @@ use Rattle.rules.specs.Events.{Outcome, quietly, saying, append, endOf, endIfDo
 use Rattle.rules.proofs.Identifiers.{same-refl, equal-same, other-not-same}
 use Rattle.rules.proofs.Records.{ValidEntry, Valid, valid-commit, valid-forget, entries-length}
 use Rattle.rules.proofs.Frames.{held-came, held-own, named-is, written-used, Stands, stands-goes, state-goes}
-use Rattle.rules.proofs.Parts.{used-emptied, closed-end, aborts}
+use Rattle.rules.proofs.Parts.{used-emptied, closed-end, aborts, used-moved}
 use Rattle.rules.proofs.Ordered.{by-number-ascends}
 use Rattle.safety.specs.World.{Note, noteOf, messageOf, subjectOf}
 use Rattle.safety.specs.Host.{Prepares, Closes, careful, Makes}
@@ -76,10 +76,6 @@ unwritten tb e log t tb₂ ss addressed same-used others move = record {
 }
 
 -- ── ends of which no record is written ──────────────────────────────────────────────────────────────────────────
-
-pub used-goes : (p s : ℕ) (f : Enlistment → Enlistment) (tb : Table) → goTo p s (changeHeld p f tb) .used ≡ tb .used
-unfolding changeHeld changeTransaction
-used-goes p s f tb = refl
 
 unlogged-end : (p : ℕ) (tb : Table) (log : List ℕ) → (stateAt p tb ≡ transaction.committing → ⊥) → endOf p tb log ≡ quietly (emptied p tb) log
 unlogged-end p tb log n = closed-end p tb log (rw (ne-eqb (stateAt p tb) transaction.committing n) refl)
@@ -138,9 +134,9 @@ module _ (tb : Table) (e : Event) (log : List ℕ) (t : Id) (p : ℕ) (tb₁ : T
   unfolding abortOf endIfDone
   own-abort d = rw (unlogged-end p tb₂ log (λ q. six-five (sym (state-goes t p transaction.aborting (changeHeld p abortedOf tb₁) (stands-held t p p abortedOf tb₁ (z .stands))) ∙ q)))
       (by-cases (λ o. Here (saying ss o)) (all isDone (held p tb₂)) (quietly (emptied p tb₂) log) (quietly tb₂ log)
-      (λ _. unlogged (emptied p tb₂) ss addressed (used-emptied p tb₂ ∙ used-goes p transaction.aborting abortedOf tb₁) (λ u n. ends-other t p tb₂ at u n ∙ others u n)
+      (λ _. unlogged (emptied p tb₂) ss addressed (used-emptied p tb₂ ∙ used-moved p transaction.aborting abortedOf tb₁) (λ u n. ends-other t p tb₂ at u n ∙ others u n)
       (λ h f l a. rw (view-ends t p tb₂ at) (abort refl d to-out silent)))
-      (λ _. unlogged tb₂ ss addressed (used-goes p transaction.aborting abortedOf tb₁) others
+      (λ _. unlogged tb₂ ss addressed (used-moved p transaction.aborting abortedOf tb₁) others
       (λ h f l a. rw (view-goes t p tb₁ (z .stands) transaction.aborting abortedOf (λ q. omega arith)) (abort refl d to-aborting silent))))
     where
       tb₂ : Table
@@ -218,7 +214,7 @@ module _ (tb : Table) (e : Event) (log : List ℕ) (t : Id) (p : ℕ) (tb₁ : T
         (λ h f l a. rw shown (decide-empty refl (v .calm) (none-aborted t tb e (toApp name.AppCommitted) (only-one notAborted name.AppCommitted 0 refl)) all-voted (λ r w. empty-some hs₁ (Hopes r) empty (hoping r w))))
 
     decide-volatile : any isDurable hs₁ ≡ false → Here (saying (commitSignals hs₁) (quietly (committing p tb₁) log))
-    decide-volatile no-durable = unlogged (committing p tb₁) (commitSignals hs₁) commit-home (used-goes p transaction.committing committedOf tb₁) (λ u n. goes-other t p tb₁ (z .stands) transaction.committing committedOf u commits n)
+    decide-volatile no-durable = unlogged (committing p tb₁) (commitSignals hs₁) commit-home (used-moved p transaction.committing committedOf tb₁) (λ u n. goes-other t p tb₁ (z .stands) transaction.committing committedOf u commits n)
         (λ h f l a. rw (shown, view-goes t p tb₁ (z .stands) transaction.committing committedOf (λ q. omega arith))
         (decide-unlogged refl (v .calm) (none-aborted t tb e (commitSignals hs₁) commit-not-aborted) all-voted
         (λ r w. let y : Some (Hopes r) hs₁ = hoping r w in none-durable hs₁ no-durable (y .it) (y .there) (y .holds .0))
@@ -288,12 +284,12 @@ module _ (tb : Table) (e : Event) (log : List ℕ) (t : Id) (p : ℕ) (tb₁ : T
           known os r = open-count tb₁ os (r .fit .ids-apart) (λ o m. open-shown o tb₁ (rw (z .other-view (o .id) (λ q. no-clash (any (isOpenAs t) os) (some-any (isOpenAs t) os (record { it = o; there = m; holds = equal-same (o .id) t q })) (closed-to os r))) (shown-open tb log os r o m)))
 
           room : (os : List Open) → Ready tb log os → committing p tb₁ .used + length (recordBytes (Record.commit t entries)) + recordSize * length (os ++ (record { id = t; entries = entries } ∷ [])) ≤ length log
-          room os r = rw (used-goes p transaction.committing committedOf tb₁, size, length-append os (record { id = t; entries = entries } ∷ [])) (omega (arith, fits, known os r))
+          room os r = rw (used-moved p transaction.committing committedOf tb₁, size, length-append os (record { id = t; entries = entries } ∷ [])) (omega (arith, fits, known os r))
 
       decide-durable : Here (saying (commitSignals hs₁) (append (commitRecord (idAt p tb₁) hs₁) (committing p tb₁) log))
       unfolding append commitRecord useMore story next allBytes entries ds
       decide-durable = rw own-id (record {
-        wrote = record { records = Record.commit t entries ∷ []; valid = each-one Valid ok; bytes = one-written bs (used-goes p transaction.committing committedOf tb₁) (omega (arith, size, fits)); judged = commit-judged };
+        wrote = record { records = Record.commit t entries ∷ []; valid = each-one Valid ok; bytes = one-written bs (used-moved p transaction.committing committedOf tb₁) (omega (arith, size, fits)); judged = commit-judged };
         other-story = λ u n s. rw (not-same u n) refl;
         other-view = λ u n. view-more u (length bs) (committing p tb₁) ∙ goes-other t p tb₁ (z .stands) transaction.committing committedOf u commits n ∙ z .other-view u n;
         addressed = commit-home;
@@ -400,7 +396,7 @@ module _ (tb : Table) (e : Event) (log : List ℕ) (t : Id) (p : ℕ) (tb₁ : T
     unfolding messageOf toEach sortBy insertBy
     start-one [] q o = absurd (omega (arith, eqb-true 0 1 o))
     start-one (x ∷ y ∷ es) q o = absurd (omega (arith, eqb-true (length (x ∷ y ∷ es)) 1 o))
-    start-one (x ∷ []) q o = unlogged (goTo p transaction.singlePhase (changeHeld p (inState enlistment.onePhase) tb₁)) (toEach name.Single hs₁) (addressed-each tb e name.Single hs₁ home) (used-goes p transaction.singlePhase (inState enlistment.onePhase) tb₁) (λ u n. goes-other t p tb₁ (z .stands) transaction.singlePhase (inState enlistment.onePhase) u (goes-to enlistment.onePhase) n)
+    start-one (x ∷ []) q o = unlogged (goTo p transaction.singlePhase (changeHeld p (inState enlistment.onePhase) tb₁)) (toEach name.Single hs₁) (addressed-each tb e name.Single hs₁ home) (used-moved p transaction.singlePhase (inState enlistment.onePhase) tb₁) (λ u n. goes-other t p tb₁ (z .stands) transaction.singlePhase (inState enlistment.onePhase) u (goes-to enlistment.onePhase) n)
         (λ h f l a. rw (shown, view-goes t p tb₁ (z .stands) transaction.singlePhase (inState enlistment.onePhase) (λ q. omega arith))
         (ask-one {n₀ = x .number} {r₀ = x .rm .0} {k₀ = x .kind} refl calm (quiet t tb e (toEach name.Single hs₁) (only-each notCommitted name.Single hs₁ refl) (only-each notAborted name.Single hs₁ refl))
         (joined x here)
@@ -424,7 +420,7 @@ module _ (tb : Table) (e : Event) (log : List ℕ) (t : Id) (p : ℕ) (tb₁ : T
         there q = rw q (List·Memᴰ·head (λ i. record { about = mine i; name = name.Single; number = x .number }))
 
     start-many : Here (saying (toEach name.Prepare hs₁) (quietly (goTo p transaction.phaseOne (changeHeld p (inState enlistment.preparing) tb₁)) log))
-    start-many = unlogged (goTo p transaction.phaseOne (changeHeld p (inState enlistment.preparing) tb₁)) (toEach name.Prepare hs₁) (addressed-each tb e name.Prepare hs₁ home) (used-goes p transaction.phaseOne (inState enlistment.preparing) tb₁) (λ u n. goes-other t p tb₁ (z .stands) transaction.phaseOne (inState enlistment.preparing) u (goes-to enlistment.preparing) n)
+    start-many = unlogged (goTo p transaction.phaseOne (changeHeld p (inState enlistment.preparing) tb₁)) (toEach name.Prepare hs₁) (addressed-each tb e name.Prepare hs₁ home) (used-moved p transaction.phaseOne (inState enlistment.preparing) tb₁) (λ u n. goes-other t p tb₁ (z .stands) transaction.phaseOne (inState enlistment.preparing) u (goes-to enlistment.preparing) n)
         (λ h f l a. rw (shown, view-goes t p tb₁ (z .stands) transaction.phaseOne (inState enlistment.preparing) (λ q. omega arith))
         (prepare refl calm (quiet t tb e (toEach name.Prepare hs₁) (only-each notCommitted name.Prepare hs₁ refl) (only-each notAborted name.Prepare hs₁ refl))
         (λ n r k w. held-own (Unasked n r k) (Preparing n r k) p (inState enlistment.preparing) tb₁ (λ x _ u. ((u .0, refl), refl)) (unasked n r k w))))

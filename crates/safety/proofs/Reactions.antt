@@ -48,7 +48,7 @@ use Rattle.safety.specs.Demand3.{Votes, Yes}
 use Rattle.safety.proofs.Alone as alone
 use Rattle.safety.proofs.Alone.{Story, Hopes, Waits, Is, Unasked, Preparing, NoDurable, durable-any, any-durable}
 use Rattle.safety.proofs.Move.{Calm, calm-note, nothing-calm, NotEnlisted, VoteOf, Doomed, from-early, from-voting, from-single, to-out, Move, gather, vote-on, abort, replied, told-on}
-use Rattle.safety.proofs.View.{viewOf, look, view-in, view-changes, state-held, stands-held, held-other}
+use Rattle.safety.proofs.View.{viewOf, look, view-in, view-changes, stands-held, held-other}
 use Rattle.safety.proofs.Given.{owner-held, Row, in-active, in-zero, in-voting, in-single, in-commit, in-abort, Named}
 use Rattle.safety.proofs.Messages.{notCommitted, notAborted, only-nothing, only-one, Owned, addressed-nothing, none-committed, none-aborted, quiet}
 use Rattle.safety.proofs.Own.{Own, Touched, unlogged, own-abort, Voted, own-decide, own-end-aborting, own-end-committing, own-start, own-end-saying}
@@ -56,9 +56,10 @@ use Rattle.rules.proofs.Kept.{SameKey, key-same, key-either, true-live, sound-k
 use Rattle.rules.proofs.Put.{member-held}
 use Rattle.rules.proofs.Preserved.{used-fits}
 use Rattle.rules.proofs.Parts.{id-length}
-use Rattle.rules.proofs.Only.{KeepsHeld, frees, kept-held}
+use Rattle.rules.proofs.Only.{KeepsHeld, frees, kept-held, at-changed}
 use Rattle.rules.proofs.Phases.{goes-to}
 use Rattle.rules.proofs.Reacting.{on-number}
+use Rattle.rules.specs.declared.Transaction.{Transaction}
 
 -- ── the state of the transaction, by that of its enlistment ─────────────────────────────────────────────────────
 
@@ -229,7 +230,7 @@ module _ (tb : Table) (log : List ℕ) (n : ℕ) (s : Sound tb) (full : length l
   view-after f k q = view-changes t p tb (named .stands) (onNumber n f) ∙ ap (λ k. look k (held p (changed f))) q
 
   state-after : (f : Enlistment → Enlistment) (k : ℕ) → stateAt p tb ≡ k → stateAt p (changed f) ≡ k
-  state-after f k q = state-held p p (onNumber n f) tb ∙ q
+  state-after f k q = ap (λ (x : Transaction). x .state) (at-changed p p (onNumber n f) tb) ∙ q
 
   -- ── vote ──────────────────────────────────────────────────────────────────────────────────────────────────────
 

@@ -76,10 +76,6 @@ pub stands-held : (t : Id) (p q : ℕ) (g : Enlistment → Enlistment) (tb : Tab
 unfolding changeHeld
 stands-held t p q g tb s = record { here = s .here; alone = s .alone }
 
-pub state-held : (p q : ℕ) (g : Enlistment → Enlistment) (tb : Table) → stateAt q (changeHeld p g tb) ≡ stateAt q tb
-unfolding changeHeld
-state-held p q g tb = refl
-
 module _ (t : Id) (p : ℕ) (tb : Table) (s : Stands t p tb) where
   pub view-goes : (n : ℕ) (g : Enlistment → Enlistment) → (n ≡ 0 → ⊥) → viewOf t (goTo p n (changeHeld p g tb)) ≡ look n (held p (changeHeld p g tb))
   view-goes n g nonzero = view-stands t p (goTo p n (changeHeld p g tb)) (stands-goes t p n (changeHeld p g tb) at nonzero)
