@@ -8,7 +8,7 @@ use mathlib.Core.Bool.{Bool, true, false}
 use mathlib.Core.List.{List, [], _∷_}
 use lib.ListN.{length, drop}
 use Rattle.lists.specs.Lists.{any, differ}
-use Rattle.lists.proofs.Loops.{drop-done, Left, left-next, left-stop}
+use Rattle.lists.proofs.Loops.{drop-done, Ahead, ahead-next, ahead-stop}
 use Rattle.rules.specs.Identifiers.{Id, sameBytes}
 use Rattle.rules.specs.Restart.{sameEntryManager}
 use Rattle.rules.specs.Log.{Entry}
@@ -47,12 +47,12 @@ module _ (log : List ℕ) (p j : ℕ) {n : ℕ} (e : n ≡ entriesCount log p) w
 -- ── what is left says what the whole says ───────────────────────────────────────────────────────────────────────
 
 -- whether no two have one resource manager
-module _ {l : List Entry} {whole b : Bool} {x : Entry} {rm : Id} {i : ℕ} (p : Left (differ sameEntryManager) l whole i) (n : drop i l ≡ x ∷ drop (i + 1) l)
+module _ {l : List Entry} {whole b : Bool} {x : Entry} {rm : Id} {i : ℕ} (p : Ahead (differ sameEntryManager) l whole i) (n : drop i l ≡ x ∷ drop (i + 1) l)
     (m : rm ≡ x .rm) (e : b ≡ any (λ y. sameBytes (y .rm) rm) (drop (i + 1) l)) where
-  pub differ-next : b ≡ false → Left (differ sameEntryManager) l whole (i + 1)
+  pub differ-next : b ≡ false → Ahead (differ sameEntryManager) l whole (i + 1)
   unfolding differ
-  differ-next t = left-next p n (rw (← m, sym e ∙ t))
+  differ-next t = ahead-next p n (rw (← m, sym e ∙ t))
 
   pub differ-stop : b ≡ true → false ≡ whole
   unfolding differ
-  differ-stop t = left-stop p n (rw (← m, sym e ∙ t))
+  differ-stop t = ahead-stop p n (rw (← m, sym e ∙ t))

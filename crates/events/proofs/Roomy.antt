@@ -39,7 +39,7 @@ use Rattle.rows.specs.Memory.{tableIn}
 use Rattle.entering.specs.StepIn.{Fine}
 use Rattle.events.proofs.Takes.{Takes, live-takes}
 
-pub about-live : (tb : Table) (n : ℕ) (a : Act) → soundOf tb ≡ true → firstOf (aboutOneChecks tb n a) ≡ refusal.accepted → Live (transactionAt (numbered n tb .holder) tb)
+about-live : (tb : Table) (n : ℕ) (a : Act) → soundOf tb ≡ true → firstOf (aboutOneChecks tb n a) ≡ refusal.accepted → Live (transactionAt (numbered n tb .holder) tb)
 unfolding numbered all
 about-live tb n a sound q =
     let cs = aboutOneChecks tb n a in

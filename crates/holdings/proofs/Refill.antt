@@ -31,7 +31,7 @@ filled-at (suc n) (suc k) (e ∷ es) h = filled-at n k es (omega arith)
 
 module _ (f : Enlistment → Bool) (empty : f noEnlistment ≡ false) where
   -- the empty ones do not pass
-  pub filter-filled : (n : ℕ) (es : List Enlistment) → length es ≤ n → filter f (filled n es) ≡ filter f es
+  filter-filled : (n : ℕ) (es : List Enlistment) → length es ≤ n → filter f (filled n es) ≡ filter f es
   unfolding filled filter
   filter-filled zero [] h = refl
   filter-filled zero (e ∷ es) h = absurd (omega arith)

@@ -13,7 +13,7 @@ use borrow.Author.Tests.{eq-eqb, ne-eqb, eqb-true, eqb-false}
 use Rattle.lists.specs.Lists.{all, any, filter, count, firstOr}
 use Rattle.lists.specs.Places.{placeFrom, placeOf, at, changeAt}
 use Rattle.lists.proofs.Tests.{by-test}
-use Rattle.lists.proofs.Places.{at-is, change-is}
+use Rattle.lists.proofs.Places.{at-is, change-is, place-some, place-none}
 
 -- an array's own length, from what owning it tells: `search long`
 pub long : {X Y : Type 0} (g : X → Y) (l : List X) (n : ℕ) → length (map g l) ≡ n → length l ≡ n
@@ -51,53 +51,58 @@ module _ {A : Type 0} (l : List A) {n : ℕ} (e : length l ≡ n) {i : ℕ} wher
 
 -- ── what is left says what the whole says ───────────────────────────────────────────────────────────────────────
 
-pub record Left {A B : Type 0} (g : List A → B) (l : List A) (whole : B) (i : ℕ) : Type 0 where
+pub record Ahead {A B : Type 0} (g : List A → B) (l : List A) (whole : B) (i : ℕ) : Type 0 where
   pub same : whole ≡ g (drop i l)
 
-module _ {A B : Type 0} {g : List A → B} {l : List A} {whole : B} {i : ℕ} (p : Left g l whole i) where
+module _ {A B : Type 0} {g : List A → B} {l : List A} {whole : B} {i : ℕ} (p : Ahead g l whole i) where
   -- g′ is to say it of the others
-  pub left-next : {g′ : List A → B} {x : A} → drop i l ≡ x ∷ drop (i + 1) l → g (x ∷ drop (i + 1) l) ≡ g′ (drop (i + 1) l) → Left g′ l whole (i + 1)
-  left-next n e = record { same = (rw n at (p .same)) ∙ e }
+  pub ahead-next : {g′ : List A → B} {x : A} → drop i l ≡ x ∷ drop (i + 1) l → g (x ∷ drop (i + 1) l) ≡ g′ (drop (i + 1) l) → Ahead g′ l whole (i + 1)
+  ahead-next n e = record { same = (rw n at (p .same)) ∙ e }
 
-  pub left-stop : {x : A} {r : B} → drop i l ≡ x ∷ drop (i + 1) l → g (x ∷ drop (i + 1) l) ≡ r → r ≡ whole
-  left-stop n e = sym ((rw n at (p .same)) ∙ e)
+  pub ahead-stop : {x : A} {r : B} → drop i l ≡ x ∷ drop (i + 1) l → g (x ∷ drop (i + 1) l) ≡ r → r ≡ whole
+  ahead-stop n e = sym ((rw n at (p .same)) ∙ e)
 
-  pub left-done : {r : B} → drop i l ≡ [] → g [] ≡ r → r ≡ whole
-  left-done n e = sym ((rw n at (p .same)) ∙ e)
+  pub ahead-done : {r : B} → drop i l ≡ [] → g [] ≡ r → r ≡ whole
+  ahead-done n e = sym ((rw n at (p .same)) ∙ e)
+
+-- the first k of a row, and behind them what g makes of what is left: one more is put
+pub ahead-put : {A B : Type 0} (g g′ : List A → List B) (row : List B) (k : ℕ) (v : B) {l : List A} {whole : List B} {i : ℕ} {x : A} → Ahead (λ xs. take k row ++ g xs) l whole i → drop i l ≡ x ∷ drop (i + 1) l → k < length row
+    → g (x ∷ drop (i + 1) l) ≡ v ∷ g′ (drop (i + 1) l) → Ahead (λ xs. take (k + 1) (set row k v) ++ g′ xs) l whole (i + 1)
+ahead-put g g′ row k v p n h e = ahead-next p n (rw (add-one k, take-suc-set row k v h, append-assoc, e))
 
 -- whether any passes
-module _ {A : Type 0} (f : A → Bool) {l : List A} {whole : Bool} {i : ℕ} (p : Left (any f) l whole i) where
-  pub any-next : {b : Bool} {x : A} → drop i l ≡ x ∷ drop (i + 1) l → b ≡ f x → b ≡ false → Left (any f) l whole (i + 1)
+module _ {A : Type 0} (f : A → Bool) {l : List A} {whole : Bool} {i : ℕ} (p : Ahead (any f) l whole i) where
+  pub any-next : {b : Bool} {x : A} → drop i l ≡ x ∷ drop (i + 1) l → b ≡ f x → b ≡ false → Ahead (any f) l whole (i + 1)
   unfolding any
-  any-next n e t = left-next p n (rw (sym e ∙ t))
+  any-next n e t = ahead-next p n (rw (sym e ∙ t))
 
   pub any-here : {b : Bool} {x : A} → drop i l ≡ x ∷ drop (i + 1) l → b ≡ f x → b ≡ true → true ≡ whole
   unfolding any
-  any-here n e t = left-stop p n (rw (sym e ∙ t))
+  any-here n e t = ahead-stop p n (rw (sym e ∙ t))
 
   pub any-over : drop i l ≡ [] → false ≡ whole
   unfolding any
-  any-over n = left-done p n refl
+  any-over n = ahead-done p n refl
 
 -- ── from the front, stopping early: g i of what is left is the answer ───────────────────────────────────────────
 
 pub record Looked {A B : Type 0} (g : ℕ → List A → B) (n : ℕ) (l : List A) (i : ℕ) : Type 0 where
   pub within : i ≤ n
   pub long : length l ≡ n
-  pub left : Left (g i) l (g 0 l) i
+  pub ahead : Ahead (g i) l (g 0 l) i
 
 module _ {A B : Type 0} {g : ℕ → List A → B} {n : ℕ} {l : List A} where
   pub look-start : length l ≡ n → Looked g n l 0
-  look-start h = record { within = omega arith; long = h; left = record { same = refl } }
+  look-start h = record { within = omega arith; long = h; ahead = record { same = refl } }
 
   pub look-next : {i : ℕ} (d : A) → Looked g n l i → i < n → ((xs : List A) → g i (getD l i d ∷ xs) ≡ g (i + 1) xs) → Looked g n l (i + 1)
-  look-next {i} d p h e = record { within = omega arith; long = p .long; left = left-next (p .left) (array-next l (p .long) d h) (e (drop (i + 1) l)) }
+  look-next {i} d p h e = record { within = omega arith; long = p .long; ahead = ahead-next (p .ahead) (array-next l (p .long) d h) (e (drop (i + 1) l)) }
 
   pub look-stop : {i : ℕ} {r : B} (d : A) → Looked g n l i → i < n → ((xs : List A) → g i (getD l i d ∷ xs) ≡ r) → r ≡ g 0 l
-  look-stop {i} d p h e = left-stop (p .left) (array-next l (p .long) d h) (e (drop (i + 1) l))
+  look-stop {i} d p h e = ahead-stop (p .ahead) (array-next l (p .long) d h) (e (drop (i + 1) l))
 
   pub look-done : {i : ℕ} {r : B} → Looked g n l i → n ≤ i → g i [] ≡ r → r ≡ g 0 l
-  look-done p h e = left-done (p .left) (array-over l (p .long) h) e
+  look-done p h e = ahead-done (p .ahead) (array-over l (p .long) h) e
 
 -- ── the first place that passes f ───────────────────────────────────────────────────────────────────────────────
 
@@ -119,13 +124,8 @@ module _ {A : Type 0} (f : A → Bool) {n : ℕ} {l : List A} where
 
 -- what the place that was found says: whether any passes
 module _ {A : Type 0} (f : A → Bool) where
-  any-from : (k : ℕ) (xs : List A) → 0 < k → any f xs ≡ not (eqb (placeFrom f k xs) 0)
-  unfolding any placeFrom
-  any-from k [] h = refl
-  any-from k (x ∷ xs) h = by-test (f x) (λ e. rw (e, ne-eqb k 0 (omega arith))) (λ e. rw e (any-from (suc k) xs (omega arith)))
-
   pub any-place : (xs : List A) → any f xs ≡ not (eqb (placeOf f xs) 0)
-  any-place xs = any-from 1 xs (omega arith)
+  any-place xs = by-test (eqb (placeOf f xs) 0) (λ e. rw e (place-none f xs (eqb-true _ _ e))) (λ e. rw e (place-some f xs (eqb-false _ _ e)))
 
 -- what a count says: whether any passes, and whether all do
 module _ {A : Type 0} (f : A → Bool) where
@@ -248,7 +248,7 @@ module _ {A : Type 0} {n : ℕ} {h : List A → List A} where
   rewrite-done {whole} {l} {i} p lt e = sym (rest-end h l i e (omega arith)) ∙ p .same
 
 -- f(x) is put for each x
-pub map-again : {A : Type 0} {n : ℕ} {f : A → A} {whole l : List A} {i : ℕ} {y : A} (d : A) → Rewritten n (map f) whole l i → i < n → y ≡ f (getD l i d) → Rewritten n (map f) whole (set l i y) (i + 1)
+map-again : {A : Type 0} {n : ℕ} {f : A → A} {whole l : List A} {i : ℕ} {y : A} (d : A) → Rewritten n (map f) whole l i → i < n → y ≡ f (getD l i d) → Rewritten n (map f) whole (set l i y) (i + 1)
 map-again {f = f} d p h q = rewrite-again d p h (λ xs. ap (λ z. z ∷ map f xs) (sym q))
 
 -- of is the list that an r has, and put xs gives it xs for that
@@ -284,25 +284,24 @@ pub record Filled {A B : Type 0} (f : ℕ → List A → List B) (n : ℕ) (l : 
   pub within : i ≤ n
   pub long : length l ≡ n
   pub long-out : length out ≡ n
-  pub same : take i out ++ f i (drop i l) ≡ f 0 l
+  pub ahead : Ahead (λ xs. take i out ++ f i xs) l (f 0 l) i
 
 module _ {A B : Type 0} {f : ℕ → List A → List B} {n : ℕ} {l : List A} where
   pub fill-start : {out : List B} → length l ≡ n → length out ≡ n → Filled f n l out 0
-  fill-start h k = record { within = omega arith; long = h; long-out = k; same = refl }
+  fill-start h k = record { within = omega arith; long = h; long-out = k; ahead = record { same = refl } }
 
   pub fill-again : {out : List B} {i : ℕ} {y : B} (d : A) → Filled f n l out i → i < n → ((xs : List A) → f i (getD l i d ∷ xs) ≡ y ∷ f (i + 1) xs) → Filled f n l (set out i y) (i + 1)
   fill-again {out} {i} {y} d p h e = record {
     within = omega arith;
     long = p .long;
     long-out = simp length-set (p .long-out);
-    same = rw (add-one, take-suc-set out i y (omega arith), append-assoc, ← add-one i, ← e (drop (i + 1) l), ← drop-at l i d (omega arith)) (p .same);
+    ahead = ahead-put (f i) (f (i + 1)) out i y (p .ahead) (array-next l (p .long) d h) (omega arith) (e (drop (i + 1) l));
   }
 
   pub fill-done : {out : List B} {i : ℕ} → Filled f n l out i → n ≤ i → f n [] ≡ [] → out ≡ f 0 l
   fill-done {out} {i} p h e =
       let z : i ≡ n = omega arith in
-      let q : take n out ++ f n (drop n l) ≡ f 0 l = rw z at (p .same) in
-      sym (append-nil out) ∙ rw (take-all n out (omega arith), drop-done l n (omega arith), e) at q
+      sym (append-nil out) ∙ ahead-done (p .ahead) (array-over l (p .long) h) (rw (z, take-all n out (omega arith), e))
 
 -- with f(x) for each x
 pub fill-map : {A B : Type 0} (f : A → B) {n : ℕ} {l : List A} {out : List B} {i : ℕ} {y : B} (d : A) → Filled (λ k. map f) n l out i → i < n → y ≡ f (getD l i d) → Filled (λ k. map f) n l (set out i y) (i + 1)

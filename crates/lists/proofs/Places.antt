@@ -45,7 +45,7 @@ module _ {A : Type 0} (d : A) where
       (λ g. let h : length xs < p = leb-false p (length xs) g in inr (at-beyond 1 p xs (omega arith))))
       (λ e. let h : p ≤ 0 = ltb-false 0 p e in inr (at-below 1 p xs (omega arith)))
 
-  at-suc : (i : ℕ) (xs : List A) → at d (suc i) xs ≡ getD xs i d
+  pub at-suc : (i : ℕ) (xs : List A) → at d (suc i) xs ≡ getD xs i d
   at-suc i xs = at-from 1 (suc i) i xs (omega arith)
 
   pub at-is : (p : ℕ) (xs : List A) → at d p xs ≡ cond (eqb p 0) d (getD xs (p - 1) d)
@@ -64,7 +64,7 @@ module _ {A : Type 0} (d : A) where
   at-member {p} xs h = at-member-from 1 p xs (omega arith) (omega arith)
 
 -- x stands at a place
-pub record Stands {A : Type 0} (d : A) (xs : List A) (x : A) : Type 0 where
+pub record HasPlace {A : Type 0} (d : A) (xs : List A) (x : A) : Type 0 where
   pub place : ℕ
   pub is-place : IsPlace xs place
   pub there : at d place xs ≡ x
@@ -74,7 +74,7 @@ module _ {A : Type 0} (d : A) where
   index-of (List·Memᴰ·head e) = (0, omega arith, sym e)
   index-of (List·Memᴰ·tail m) = let (i, h, e) = index-of m in (suc i, omega arith, e)
 
-  pub member-at : {x : A} {xs : List A} → x ∈ xs → Stands d xs x
+  pub member-at : {x : A} {xs : List A} → x ∈ xs → HasPlace d xs x
   member-at {x} {xs} m = let (i, h, e) = index-of m in record { place = suc i; is-place = record { low = omega arith; high = omega arith }; there = at-suc d i xs ∙ e }
 
 -- ── changing one place ──────────────────────────────────────────────────────────────────────────────────────────
@@ -125,7 +125,7 @@ module _ {A : Type 0} (f : A → A) where
 -- ── the first place that passes ─────────────────────────────────────────────────────────────────────────────────
 
 module _ {A : Type 0} (f : A → Bool) where
-  pub none-place : (k : ℕ) (xs : List A) → any f xs ≡ false → placeFrom f k xs ≡ 0
+  none-place : (k : ℕ) (xs : List A) → any f xs ≡ false → placeFrom f k xs ≡ 0
   unfolding any placeFrom
   none-place k [] e = refl
   none-place k (x ∷ xs) e = rw (false-or (f x) (any f xs) e .0) (none-place (suc k) xs (false-or (f x) (any f xs) e .1))

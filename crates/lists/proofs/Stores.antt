@@ -5,7 +5,7 @@ use mathlib.Core.Path.{_≡_, refl}
 use mathlib.Core.List.{List, [], _∷_, _++_}
 use lib.ListN.{length, getD, set, length-set}
 use lib.Seq.{sets}
-use Rattle.lists.proofs.Loops.{array-next, array-over, Left, left-next, left-done}
+use Rattle.lists.proofs.Loops.{array-next, array-over, Ahead, ahead-next, ahead-done}
 
 pub sets-append : {A : Type 0} (l : List A) (at : ℕ) (xs ys : List A) → sets l at (xs ++ ys) ≡ sets (sets l at xs) (at + length xs) ys
 sets-append l at [] ys = let e : at + 0 ≡ at = omega arith in rw e
@@ -16,16 +16,16 @@ pub record Stored (n : ℕ) (vs l₀ : List ℕ) (at : ℕ) (l : List ℕ) (i : 
   pub within : i ≤ n
   pub long : length vs ≡ n
   pub size : length l ≡ length l₀
-  pub left : Left (sets l (at + i)) vs (sets l₀ at vs) i
+  pub ahead : Ahead (sets l (at + i)) vs (sets l₀ at vs) i
 
 module _ {n : ℕ} {vs l₀ : List ℕ} {at : ℕ} where
   pub store-start : length vs ≡ n → Stored n vs l₀ at l₀ 0
-  store-start h = record { within = omega arith; long = h; size = refl; left = record { same = let e : at + 0 ≡ at = omega arith in rw e } }
+  store-start h = record { within = omega arith; long = h; size = refl; ahead = record { same = let e : at + 0 ≡ at = omega arith in rw e } }
 
   pub store-again : {l l′ : List ℕ} {i : ℕ} → Stored n vs l₀ at l i → i < n → l′ ≡ set l (at + i) (getD vs i 0) → Stored n vs l₀ at l′ (i + 1)
   store-again {l} {l′} {i} p h q =
       let e : at + (i + 1) ≡ suc (at + i) = omega arith in
-      record { within = omega arith; long = p .long; size = rw q (simp length-set (p .size)); left = left-next (p .left) (array-next vs (p .long) 0 h) (rw (e, q)) }
+      record { within = omega arith; long = p .long; size = rw q (simp length-set (p .size)); ahead = ahead-next (p .ahead) (array-next vs (p .long) 0 h) (rw (e, q)) }
 
   pub store-done : {l : List ℕ} {i : ℕ} → Stored n vs l₀ at l i → n ≤ i → l ≡ sets l₀ at vs
-  store-done p h = left-done (p .left) (array-over vs (p .long) h) refl
+  store-done p h = ahead-done (p .ahead) (array-over vs (p .long) h) refl

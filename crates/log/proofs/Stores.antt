@@ -2,10 +2,10 @@
 use Prim.Native.Nat.{ℕ, suc, _+_, _*_, _≤_, _<_}
 use native.Mathlib.Omega.{arith}
 use mathlib.Core.Path.{_≡_, refl, sym, _∙_}
-use mathlib.Core.List.{List, map}
+use mathlib.Core.List.{List, _∷_, map}
 use lib.ListN.{length, getD, set, drop, length-append, length-map}
 use lib.Seq.{sets, length-sets}
-use Rattle.lists.proofs.Loops.{drop-at, drop-done}
+use Rattle.lists.proofs.Loops.{array-next, array-over, Ahead, ahead-next, ahead-done}
 use Rattle.lists.proofs.Stores.{sets-append}
 use Rattle.rules.specs.declared.Enlistment.{Enlistment}
 use Rattle.rules.specs.Sizes.{identifierSize, recordSize, entrySize}
@@ -20,29 +20,30 @@ pub record Entered (n : ℕ) (vs : List Enlistment) (l₀ : List ℕ) (at : ℕ)
   pub within : k ≤ n
   pub long : length vs ≡ n
   pub size : length l ≡ length l₀
-  pub same : sets l (at + entrySize * k) (entries (drop k vs)) ≡ sets l₀ at (entries vs)
-  pub sizes : length (entries vs) ≡ entrySize * k + length (entries (drop k vs))
+  pub ahead : Ahead (λ es. sets l (at + entrySize * k) (entries es)) vs (sets l₀ at (entries vs)) k
+  pub sizes : Ahead (λ es. entrySize * k + length (entries es)) vs (length (entries vs)) k
 
 module _ {n : ℕ} {vs : List Enlistment} {l₀ : List ℕ} {at : ℕ} where
   pub enter-start : length vs ≡ n → Entered n vs l₀ at l₀ 0
-  enter-start h = record { within = omega arith; long = h; size = refl; same = (let e : at + entrySize * 0 ≡ at = omega arith in rw e); sizes = omega arith }
+  enter-start h = record { within = omega arith; long = h; size = refl; ahead = record { same = let e : at + entrySize * 0 ≡ at = omega arith in rw e }; sizes = record { same = omega arith } }
 
   pub enter-again : {l l′ : List ℕ} {k : ℕ} {e : Enlistment} (d : Enlistment) → Entered n vs l₀ at l k → k < n
       → e ≡ getD vs k d → l′ ≡ sets l (at + entrySize * k) (entryBytes (entryOf e)) → length (entryBytes (entryOf e)) ≡ entrySize → Entered n vs l₀ at l′ (k + 1)
   unfolding entriesBytes
   enter-again {l} {l′} {k} {e} d p h g q w =
       let f : at + entrySize * (k + 1) ≡ at + entrySize * k + entrySize = omega arith in
+      let n : drop k vs ≡ e ∷ drop (k + 1) vs = rw g (array-next vs (p .long) d h) in
       record {
         within = omega arith;
         long = p .long;
         size = rw q (length-sets l (at + entrySize * k) (entryBytes (entryOf e)) ∙ p .size);
-        same = rw (f, q) (rw (drop-at vs k d (omega arith), ← g, sets-append, w) at (p .same));
-        sizes = omega (arith, rw (drop-at vs k d (omega arith), ← g, length-append, w) at (p .sizes));
+        ahead = ahead-next (p .ahead) n (rw (f, q, sets-append, w));
+        sizes = ahead-next (p .sizes) n (rw (length-append, w) (omega arith));
       }
 
   pub enter-done : {l : List ℕ} {k : ℕ} → Entered n vs l₀ at l k → n ≤ k → (l ≡ sets l₀ at (entries vs)) × (length (entries vs) ≡ entrySize * n)
   unfolding entriesBytes
-  enter-done {l} {k} p h = (rw (drop-done vs k (omega arith)) at (p .same), omega (arith, rw (drop-done vs k (omega arith)) at (p .sizes)))
+  enter-done {l} {k} p h = (ahead-done (p .ahead) (array-over vs (p .long) h) refl, sym (ahead-done (p .sizes) (array-over vs (p .long) h) (omega (arith, p .within))))
 
 -- a record, stored piece by piece
 pub commit-stored : (l : List ℕ) (used n : ℕ) (id : List ℕ) (es : List Enlistment) {l1 l2 l3 l4 : List ℕ}

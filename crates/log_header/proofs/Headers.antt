@@ -1,39 +1,42 @@
--- Two rows of bytes, compared byte by byte: what is left of both says what the whole says.
-use Prim.Native.Nat.{ℕ, suc, _+_, _-_, _≤_, _<_}
+-- The first bytes of two rows, compared one by one: they are two lists of one length, and what stands in each is what stands in its row.
+use Prim.Native.Nat.{ℕ, zero, suc, _+_, _<_}
 use native.Mathlib.Omega.{arith}
-use native.Mathlib.Numerals.{add-one}
-use mathlib.Core.Path.{_≡_, sym}
-use mathlib.Core.Bool.{true, false}
-use mathlib.Core.List.{List, _∷_}
+use native.Mathlib.Nat.{not-suc-le-zero, le-of-suc-le-suc}
+use mathlib.Core.Path.{_≡_, refl, ap}
+use mathlib.Core.Bool.{Bool, true, false}
+use mathlib.Core.List.{List}
 use lib.Dec.{eqb}
-use lib.ListN.{getD}
+use lib.ListN.{length, getD}
+use Rattle.lists.proofs.Loops.{Paired, pair-start, pair-next, pair-stop}
 use Rattle.rules.specs.Identifiers.{sameBytes}
 use Rattle.log_reader.specs.Reading.{bytesAt}
 
-bytes-next : (log : List ℕ) (i n : ℕ) → i < n → bytesAt log i (n - i) ≡ getD log i 0 ∷ bytesAt log (i + 1) (n - (i + 1))
+bytes-long : (log : List ℕ) (p n : ℕ) → length (bytesAt log p n) ≡ n
 unfolding bytesAt
-bytes-next log i n h = let k : n - i ≡ suc (n - (i + 1)) = omega arith in rw (k, add-one i)
+bytes-long log p zero = refl
+bytes-long log p (suc n) = ap suc (bytes-long log (suc p) n)
 
-pub record Along (a b : List ℕ) (n i : ℕ) : Type 0 where
-  pub within : i ≤ n
-  pub same : sameBytes (bytesAt a 0 n) (bytesAt b 0 n) ≡ sameBytes (bytesAt a i (n - i)) (bytesAt b i (n - i))
+byte-there : (log : List ℕ) (p n i : ℕ) → i < n → getD (bytesAt log p n) i 0 ≡ getD log (p + i) 0
+unfolding bytesAt
+byte-there log p zero i h = absurd (not-suc-le-zero h)
+byte-there log p (suc n) zero h = let k : p + 0 ≡ p = omega arith in rw k
+byte-there log p (suc n) (suc i) h = let k : suc p + i ≡ p + suc i = omega arith in rw (← k) (byte-there log (suc p) n i (le-of-suc-le-suc h))
 
-module _ {a b : List ℕ} {n : ℕ} where
-  pub along-start : Along a b n 0
-  along-start = record { within = omega arith; same = let k : n - 0 ≡ n = omega arith in rw k }
+abbrev pub Compared : List ℕ → List ℕ → ℕ → ℕ → Type 0
+Compared a b n i = Paired sameBytes n (bytesAt a 0 n) (bytesAt b 0 n) i
 
-  module _ {i x y : ℕ} (p : Along a b n i) (h : i < n) (ex : x ≡ getD a (0 + (0 + i)) 0) (ey : y ≡ getD b i 0) where
-    along : sameBytes (bytesAt a 0 n) (bytesAt b 0 n) ≡ sameBytes (x ∷ bytesAt a (i + 1) (n - (i + 1))) (y ∷ bytesAt b (i + 1) (n - (i + 1)))
-    along = let k : 0 + (0 + i) ≡ i = omega arith in rw (ex, ey, k) (rw (bytes-next a i n h, bytes-next b i n h) at (p .same))
+module _ (a b : List ℕ) {n : ℕ} where
+  pub compare-start : Compared a b n 0
+  compare-start = pair-start (bytes-long a 0 n) (bytes-long b 0 n)
 
-    pub along-next : eqb x y ≡ true → Along a b n (i + 1)
+  module _ {i x y : ℕ} (p : Compared a b n i) (h : i < n) (ex : x ≡ getD a (0 + (0 + i)) 0) (ey : y ≡ getD b i 0) where
+    heads : (r : Bool) → eqb x y ≡ r → eqb (getD (bytesAt a 0 n) i 0) (getD (bytesAt b 0 n) i 0) ≡ r
+    heads r e = let k : 0 + i ≡ i = omega arith in rw (byte-there a 0 n i h, byte-there b 0 n i h, k, ← ey) (rw (ex, k, k) at e)
+
+    pub compare-next : eqb x y ≡ true → Compared a b n (i + 1)
     unfolding sameBytes
-    along-next e = record { within = omega arith; same = rw e at along }
+    compare-next e = pair-next 0 p h (λ xs ys. rw (heads true e))
 
-    pub along-stop : eqb x y ≡ false → false ≡ sameBytes (bytesAt a 0 n) (bytesAt b 0 n)
+    pub compare-stop : eqb x y ≡ false → false ≡ sameBytes (bytesAt a 0 n) (bytesAt b 0 n)
     unfolding sameBytes
-    along-stop e = sym (rw e at along)
-
-  pub along-done : {i : ℕ} → Along a b n i → n ≤ i → true ≡ sameBytes (bytesAt a 0 n) (bytesAt b 0 n)
-  unfolding sameBytes bytesAt
-  along-done {i} p h = let k : n - i ≡ 0 = omega arith in sym (rw k at (p .same))
+    compare-stop e = pair-stop 0 p h (λ xs ys. rw (heads false e))

@@ -19,7 +19,7 @@ use Rattle.log_reader.specs.Reading.{bytesAt, identifierAt, managerAt, n
 
 -- ── the first byte of a record ──────────────────────────────────────────────────────────────────────────────────
 
-pub not-forget : (b : ℕ) → eqb b commitTag ≡ true → eqb b forgetTag ≡ false
+not-forget : (b : ℕ) → eqb b commitTag ≡ true → eqb b forgetTag ≡ false
 not-forget b t = ne-eqb b forgetTag (λ e. omega (arith, eqb-true b commitTag t))
 
 -- ── bytes that are passed over ──────────────────────────────────────────────────────────────────────────────────

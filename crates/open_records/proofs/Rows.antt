@@ -8,7 +8,7 @@ use mathlib.Core.List.{List, [], _∷_, _++_}
 use lib.ListN.{length, getD, drop, length-map, length-take, length-append}
 use lib.Seq.{drop-cons, getD-take}
 use Rattle.lists.specs.Lists.{any}
-use Rattle.lists.proofs.Loops.{drop-done, drop-map}
+use Rattle.lists.proofs.Loops.{drop-done, drop-map, Ahead, ahead-next, ahead-done}
 use Rattle.rules.specs.Sizes.{transactionPlaces}
 use Rattle.rules.specs.Restart.{Open, entriesOpen}
 use Rattle.rules.specs.Log.{Entry}
@@ -57,15 +57,14 @@ any-entries f (o ∷ os) = rw (any-append f (o .entries) (entriesOpen os), any-e
 pub record Summed (os : List Open) (sum i : ℕ) : Type 0 where
   pub within : i ≤ transactionPlaces
   pub few : sum ≤ 255 * i
-  pub same : length (entriesOpen os) ≡ sum + length (entriesOpen (drop i os))
+  pub ahead : Ahead (λ os. sum + length (entriesOpen os)) os (length (entriesOpen os)) i
 
 pub summed-next : {os : List Open} {sum i m : ℕ} (log : List ℕ) (p : ℕ) → Summed os sum i → i < transactionPlaces → drop i os ≡ openAt log p ∷ drop (i + 1) os → m ≡ entriesCount log p → m ≤ 255
     → Summed os (sum + m) (i + 1)
 unfolding entriesOpen
 summed-next {os} {sum} {i} {m} log p s h n e few =
-    let q : length (entriesOpen os) ≡ sum + length (entriesAt log p ++ entriesOpen (drop (i + 1) os)) = rw n at (s .same) in
-    record { within = omega arith; few = omega (arith, s .few); same = omega (arith, length-append (entriesAt log p) (entriesOpen (drop (i + 1) os)), entries-long log p) }
+    record { within = omega arith; few = omega (arith, s .few); ahead = ahead-next (s .ahead) n (omega (arith, length-append (entriesAt log p) (entriesOpen (drop (i + 1) os)), entries-long log p)) }
 
 pub summed-done : {os : List Open} {sum i : ℕ} → Summed os sum i → drop i os ≡ [] → (sum ≡ length (entriesOpen os)) × (sum ≤ transactionPlaces * 255)
 unfolding entriesOpen
-summed-done {os} {sum} s n = let q : length (entriesOpen os) ≡ sum + 0 = rw n at (s .same) in (omega arith, omega (arith, s .few))
+summed-done s n = (ahead-done (s .ahead) n (omega arith), omega (arith, s .few, s .within))

@@ -6,7 +6,7 @@ use mathlib.Core.Path.{_≡_, refl, sym, _∙_}
 use mathlib.Core.List.{List, [], _∷_, _++_, map}
 use lib.ListN.{length, drop, set, replicate, length-map, length-replicate}
 use lib.Seq.{sets, sets-eq}
-use Rattle.lists.proofs.Loops.{Left, left-next, left-done}
+use Rattle.lists.proofs.Loops.{Ahead, ahead-next, ahead-done}
 use Rattle.lists.proofs.Stores.{sets-append}
 use Rattle.rules.specs.declared.Transaction.{Transaction}
 use Rattle.rules.specs.declared.Enlistment.{Enlistment}
@@ -35,50 +35,50 @@ in-front n x l h =
 -- ── the transactions ────────────────────────────────────────────────────────────────────────────────────────────
 
 pub record Naming (os : List Open) (t u : Table) (i : ℕ) : Type 0 where
-  pub left : Left (λ os. withTransactions (sets (u .transactions) i (map reopened os)) u) os (transactionsPut os t) i
+  pub ahead : Ahead (λ os. withTransactions (sets (u .transactions) i (map reopened os)) u) os (transactionsPut os t) i
 
 module _ {os : List Open} {t : Table} where
   pub naming-start : Naming os t t 0
   unfolding transactionsPut
-  naming-start = record { left = record { same = refl } }
+  naming-start = record { ahead = record { same = refl } }
 
   pub naming-again : {u : Table} {i : ℕ} {o : Open} {x : Transaction} → Naming os t u i → drop i os ≡ o ∷ drop (i + 1) os → x ≡ reopened o
       → Naming os t (withTransactions (set (u .transactions) i x) u) (i + 1)
-  naming-again {u} {i} p n e = record { left = left-next (p .left) n (rw (e, add-one i)) }
+  naming-again {u} {i} p n e = record { ahead = ahead-next (p .ahead) n (rw (e, add-one i)) }
 
   pub naming-done : {u : Table} {i : ℕ} → Naming os t u i → drop i os ≡ [] → u ≡ transactionsPut os t
-  naming-done p n = left-done (p .left) n refl
+  naming-done p n = ahead-done (p .ahead) n refl
 
 -- ── the entries of one record ───────────────────────────────────────────────────────────────────────────────────
 
 pub record Entering (p : ℕ) (es : List Entry) (k : ℕ) (t u : Table) (j : ℕ) : Type 0 where
-  pub left : Left (λ es. withEnlistments (sets (u .enlistments) (k + j) (map (reenlistment p) es)) u) es (entriesPut p es k t) j
+  pub ahead : Ahead (λ es. withEnlistments (sets (u .enlistments) (k + j) (map (reenlistment p) es)) u) es (entriesPut p es k t) j
 
 module _ {p : ℕ} {es : List Entry} {k : ℕ} {t : Table} where
   pub entering-start : Entering p es k t t 0
   unfolding entriesPut
-  entering-start = record { left = record { same = let e : k + 0 ≡ k = omega arith in rw e } }
+  entering-start = record { ahead = record { same = let e : k + 0 ≡ k = omega arith in rw e } }
 
   pub entering-again : {u v : Table} {j : ℕ} {x : Entry} {e : Enlistment} → Entering p es k t u j → drop j es ≡ x ∷ drop (j + 1) es → e ≡ reenlistment p x
       → v ≡ withEnlistments (set (u .enlistments) (k + j) e) u → Entering p es k t v (j + 1)
   entering-again {u} {v} {j} r n e q =
       let s : suc (k + j) ≡ k + (j + 1) = omega arith in
-      record { left = left-next (r .left) n (rw (q, e, ← s)) }
+      record { ahead = ahead-next (r .ahead) n (rw (q, e, ← s)) }
 
   pub entering-done : {u : Table} {j : ℕ} → Entering p es k t u j → drop j es ≡ [] → u ≡ entriesPut p es k t
-  entering-done r n = left-done (r .left) n refl
+  entering-done r n = ahead-done (r .ahead) n refl
 
 -- ── the entries of all ──────────────────────────────────────────────────────────────────────────────────────────
 
 pub record Enlisting (os : List Open) (t u : Table) (k i : ℕ) : Type 0 where
   pub within : i ≤ transactionPlaces
   pub few : k ≤ 255 * i
-  pub left : Left (λ os. withEnlistments (sets (u .enlistments) k (reenlistments (i + 1) os)) u) os (enlistmentsPut os t) i
+  pub ahead : Ahead (λ os. withEnlistments (sets (u .enlistments) k (reenlistments (i + 1) os)) u) os (enlistmentsPut os t) i
 
 module _ {os : List Open} {t : Table} where
   pub enlisting-start : Enlisting os t t 0 0
   unfolding enlistmentsPut
-  enlisting-start = record { within = omega arith; few = omega arith; left = record { same = refl } }
+  enlisting-start = record { within = omega arith; few = omega arith; ahead = record { same = refl } }
 
   pub enlisting-again : {u v : Table} {k i m : ℕ} {o : Open} → Enlisting os t u k i → i < transactionPlaces → drop i os ≡ o ∷ drop (i + 1) os → v ≡ entriesPut (i + 1) (o .entries) k u
       → m ≡ length (o .entries) → m ≤ 255 → Enlisting os t v (k + m) (i + 1)
@@ -88,12 +88,12 @@ module _ {os : List Open} {t : Table} where
       record {
         within = omega arith;
         few = omega (arith, p .few);
-        left = left-next (p .left) n (rw (q, add-one (i + 1), sets-append (u .enlistments) k (map (reenlistment (i + 1)) (o .entries)) (reenlistments (suc (i + 1)) (drop (i + 1) os)), l));
+        ahead = ahead-next (p .ahead) n (rw (q, add-one (i + 1), sets-append (u .enlistments) k (map (reenlistment (i + 1)) (o .entries)) (reenlistments (suc (i + 1)) (drop (i + 1) os)), l));
       }
 
   pub enlisting-done : {u : Table} {k i : ℕ} → Enlisting os t u k i → drop i os ≡ [] → u ≡ enlistmentsPut os t
   unfolding reenlistments
-  enlisting-done p n = left-done (p .left) n refl
+  enlisting-done p n = ahead-done (p .ahead) n refl
 
 -- ── the whole table ─────────────────────────────────────────────────────────────────────────────────────────────
 

@@ -53,7 +53,7 @@ after-line w l h =
 
 -- ── parts ───────────────────────────────────────────────────────────────────────────────────────────────────────
 
-pub part-both : (a b c : ℕ) (l : List ℕ) → a ≤ b → b ≤ c → part a c l ≡ part a b l ++ part b c l
+part-both : (a b c : ℕ) (l : List ℕ) → a ≤ b → b ≤ c → part a c l ≡ part a b l ++ part b c l
 part-both a b c l h k =
     let e : c - a ≡ (b - a) + (c - b) = omega arith in
     let f : a + (b - a) ≡ b = omega arith in

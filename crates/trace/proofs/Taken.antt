@@ -22,7 +22,7 @@ take-more zero a b = refl
 take-more (suc n) [] b = refl
 take-more (suc n) (x ∷ xs) b = ap (_∷_ x) (take-more n xs b)
 
-pub more-stands : {w : Stand} {s r : Session} {heads rows : List (List ℕ)} {log line output more line′ : List ℕ}
+more-stands : {w : Stand} {s r : Session} {heads rows : List (List ℕ)} {log line output more line′ : List ℕ}
     → Keeps (s .kept) line more (r .kept) line′ → Fits s heads rows line output → r .capacity ≡ s .capacity → r .used ≡ s .used → r .waiting ≡ s .waiting
     → Stands w s heads rows log line output → Stands (withMore w more) r heads rows log line′ output
 more-stands {w} {more = more} k f c u p h =
@@ -39,10 +39,10 @@ module _ (block : List ℕ) (from end : ℕ) (found : end ≡ from + indexOf new
   unfolding slice
   to-newline = omega (arith, rw take-length at found)
 
-  pub after-rest : (w : Stand) → afterBytes w (part from end block) ≡ withMore w (part from end block)
+  after-rest : (w : Stand) → afterBytes w (part from end block) ≡ withMore w (part from end block)
   after-rest w = rw to-newline (after-plain w (drop from block))
 
-  pub after-whole : (w : Stand) → end < length block → from ≤ end → afterBytes w (part from (end + 1) block) ≡ answered (withMore w (part from end block))
+  after-whole : (w : Stand) → end < length block → from ≤ end → afterBytes w (part from (end + 1) block) ≡ answered (withMore w (part from end block))
   after-whole w h k =
       let e : end + 1 - from ≡ indexOf newline (drop from block) + 1 = omega (arith, to-newline) in
       rw (e, to-newline) (after-line w (drop from block) (simp length-drop (omega (arith, to-newline))))

@@ -8,8 +8,9 @@ use lib.ListN.{length}
 use borrow.Author.Tests.{ne-eqb}
 use Rattle.lists.proofs.Tests.{by-test}
 use Rattle.rules.specs.declared.Table.{Table}
+use Rattle.rules.specs.Trace.{onFirst}
 use Rattle.trace_line.specs.Promises.{newline}
-use Rattle.trace.specs.Program.{Stand, answered, withMore, afterBytes, afterAll, start, programOf, onFirstLine, linesOf, tracesOf}
+use Rattle.trace.specs.Program.{Stand, answered, withMore, afterBytes, afterAll, start, programOf, linesOf, tracesOf}
 
 -- the lines of what follows, the first of them with what has come of it
 abbrev continued : List ℕ → List (List ℕ) → List (List ℕ)
@@ -21,7 +22,7 @@ continued-ended : (line : List ℕ) (ls : List (List ℕ)) → continued line ([
 continued-ended [] ls = refl
 continued-ended (x ∷ xs) ls = rw append-nil
 
-continued-more : (line : List ℕ) (b : ℕ) (ls : List (List ℕ)) → continued (line ++ (b ∷ [])) ls ≡ continued line (onFirstLine b ls)
+continued-more : (line : List ℕ) (b : ℕ) (ls : List (List ℕ)) → continued (line ++ (b ∷ [])) ls ≡ continued line (onFirst b ls)
 continued-more [] b [] = refl
 continued-more [] b (l ∷ ls) = refl
 continued-more (x ∷ xs) b [] = refl

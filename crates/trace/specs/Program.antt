@@ -6,7 +6,7 @@ use lib.Dec.{eqb}
 use lib.ListN.{length, replicate}
 use Rattle.rules.specs.declared.Table.{Table}
 use Rattle.rules.specs.Restart.{restartOf}
-use Rattle.rules.specs.Trace.{tracedOf, traceCapacity}
+use Rattle.rules.specs.Trace.{onFirst, tracedOf, traceCapacity}
 use Rattle.trace_line.specs.Promises.{newline}
 
 -- the table, the log, the bytes of the present line so far, however many, and what was printed
@@ -49,14 +49,10 @@ programOf input = afterAll (afterBytes start input) .printed
 
 -- ── the same, by whole lines ────────────────────────────────────────────────────────────────────────────────────
 
-abbrev pub onFirstLine : ℕ → List (List ℕ) → List (List ℕ)
-onFirstLine b [] = (b ∷ []) ∷ []
-onFirstLine b (l ∷ ls) = (b ∷ l) ∷ ls
-
 -- the lines of an input, without their newlines
 unfoldable pub linesOf : List ℕ → List (List ℕ)
 linesOf [] = []
-linesOf (b ∷ bs) = cond (eqb b newline) ([] ∷ linesOf bs) (onFirstLine b (linesOf bs))
+linesOf (b ∷ bs) = cond (eqb b newline) ([] ∷ linesOf bs) (onFirst b (linesOf bs))
 
 -- each line is obeyed on what the line before it left, and printed in its place
 unfoldable pub tracesOf : Table → List ℕ → List (List ℕ) → List ℕ

@@ -14,13 +14,13 @@ use mathlib.Core.Logic.{inr}
 use Rattle.rules.specs.Sizes.{largestNumber}
 use Rattle.rules.specs.Identifiers.{sameBytes, zeroId}
 use Rattle.rules.specs.Trace.{words, space, digitZero, isDigit, valueFrom, valueOf, isNumeral, isNumberWord, isIdentifierWord}
-use Rattle.lists.proofs.Loops.{drop-at, drop-done, Left, left-next, left-done}
+use Rattle.lists.proofs.Loops.{drop-at, drop-done, Ahead, ahead-next, ahead-done}
 use Rattle.trace_words.specs.Words.{wordEnd, noNumber, extendedOf, digitsValue, numeralOf, numberOf, identifierWordOf}
 
 -- ── the words of a line ─────────────────────────────────────────────────────────────────────────────────────────
 
 -- a space ends the first word, and the others follow it
-pub words-more : (s : List ℕ) → wordEnd s < length s → words s ≡ take (wordEnd s) s ∷ words (drop (suc (wordEnd s)) s)
+words-more : (s : List ℕ) → wordEnd s < length s → words s ≡ take (wordEnd s) s ∷ words (drop (suc (wordEnd s)) s)
 unfolding wordEnd words
 words-more [] h = absurd (omega arith)
 words-more (b ∷ bs) h = by-test (eqb b space)
@@ -28,7 +28,7 @@ words-more (b ∷ bs) h = by-test (eqb b space)
     (λ e. let g : suc (wordEnd bs) < suc (length bs) = rw e at h in rw e (rw (words-more bs (omega arith))))
 
 -- without a space the line is one word
-pub words-one : (s : List ℕ) → length s ≤ wordEnd s → words s ≡ s ∷ []
+words-one : (s : List ℕ) → length s ≤ wordEnd s → words s ≡ s ∷ []
 unfolding wordEnd words
 words-one [] h = refl
 words-one (b ∷ bs) h = by-test (eqb b space)
@@ -100,19 +100,19 @@ by-digits n (b ∷ bs) h = by-test (isDigit b)
 -- a loop that extends n by each byte of w
 pub record Extended (w : List ℕ) (n i : ℕ) : Type 0 where
   pub within : i ≤ length w
-  pub left : Left (extendedBy n) w (extendedBy 0 w) i
+  pub ahead : Ahead (extendedBy n) w (extendedBy 0 w) i
 
 module _ {w : List ℕ} where
   pub extended-start : Extended w 0 0
-  extended-start = record { within = omega arith; left = record { same = refl } }
+  extended-start = record { within = omega arith; ahead = record { same = refl } }
 
   pub extended-again : {n i m : ℕ} → Extended w n i → i < length w → m ≡ extendedOf n (getD w i 0) → Extended w m (i + 1)
   unfolding extendedBy
-  extended-again {n} {i} p h e = record { within = omega arith; left = left-next (p .left) (drop-at w i 0 h) (rw e) }
+  extended-again {n} {i} p h e = record { within = omega arith; ahead = ahead-next (p .ahead) (drop-at w i 0 h) (rw e) }
 
   pub extended-done : {n i : ℕ} → Extended w n i → length w ≤ i → n ≡ digitsValue w
   unfolding extendedBy digitsValue
-  extended-done {n} {i} p h = left-done (p .left) (drop-done w i h) refl ∙ by-digits 0 w (omega arith)
+  extended-done {n} {i} p h = ahead-done (p .ahead) (drop-done w i h) refl ∙ by-digits 0 w (omega arith)
 
 -- ── leading zeros ───────────────────────────────────────────────────────────────────────────────────────────────
 

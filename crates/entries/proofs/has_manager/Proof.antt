@@ -3,7 +3,7 @@ use Prim.Native.Nat.{_-_}
 use mathlib.Core.Path.{refl}
 use borrow.Author.Needs.{needs}
 use Rattle.lists.specs.Lists.{any}
-use Rattle.lists.proofs.Loops.{Left, any-next, any-here, any-over}
+use Rattle.lists.proofs.Loops.{Ahead, any-next, any-here, any-over}
 use lib.ListN.{drop}
 use Rattle.rules.specs.Identifiers.{sameBytes}
 use Rattle.log_reader.specs.Reading.{entriesAt}
@@ -15,7 +15,7 @@ pub has-manager-spec : {M : Type 1} → statement M
 has-manager-spec =
     tie.close
     (tie.spec
-    (λ log at from rm n j₀ j. Left (any (λ e. sameBytes (e .rm) rm)) (entriesAt log at) (any (λ e. sameBytes (e .rm) rm) (drop from (entriesAt log at))) j)
+    (λ log at from rm n j₀ j. Ahead (any (λ e. sameBytes (e .rm) rm)) (entriesAt log at) (any (λ e. sameBytes (e .rm) rm) (drop from (entriesAt log at))) j)
     (λ log at from rm n j₀ j. n - j)
     (λ c κs. search needs)
     (λ c. record { same = refl })

@@ -3,7 +3,7 @@ use Prim.Native.Nat.{ℕ, _-_}
 use mathlib.Core.Path.{refl, ap}
 use borrow.Author.Needs.{needs}
 use Rattle.lists.specs.Lists.{any}
-use Rattle.lists.proofs.Loops.{Left, any-next, any-here, any-over}
+use Rattle.lists.proofs.Loops.{Ahead, any-next, any-here, any-over}
 use lib.Dec.{eqb}
 use Rattle.log_reader.specs.Reading.{entriesAt}
 use Rattle.entries.proofs.Rows.{entry-next, entries-over}
@@ -14,7 +14,7 @@ pub has-number-spec : {M : Type 1} → statement M
 has-number-spec =
     tie.close
     (tie.spec
-    (λ log at number n j₀ j. Left (any (λ d. eqb (d .number) number)) (entriesAt log at) (any (λ d. eqb (d .number) number) (entriesAt log at)) j)
+    (λ log at number n j₀ j. Ahead (any (λ d. eqb (d .number) number)) (entriesAt log at) (any (λ d. eqb (d .number) number) (entriesAt log at)) j)
     (λ log at number n j₀ j. n - j)
     (λ c κs. search needs)
     (λ c. record { same = refl })

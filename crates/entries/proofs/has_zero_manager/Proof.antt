@@ -3,7 +3,7 @@ use Prim.Native.Nat.{_-_}
 use mathlib.Core.Path.{refl}
 use borrow.Author.Needs.{needs}
 use Rattle.lists.specs.Lists.{any}
-use Rattle.lists.proofs.Loops.{Left, any-next, any-here, any-over}
+use Rattle.lists.proofs.Loops.{Ahead, any-next, any-here, any-over}
 use Rattle.rules.specs.Identifiers.{isZero}
 use Rattle.log_reader.specs.Reading.{entriesAt}
 use Rattle.entries.proofs.Rows.{entry-next, entries-over}
@@ -14,7 +14,7 @@ pub has-zero-manager-spec : {M : Type 1} → statement M
 has-zero-manager-spec =
     tie.close
     (tie.spec
-    (λ log at n j₀ j. Left (any (λ e. isZero (e .rm))) (entriesAt log at) (any (λ e. isZero (e .rm)) (entriesAt log at)) j)
+    (λ log at n j₀ j. Ahead (any (λ e. isZero (e .rm))) (entriesAt log at) (any (λ e. isZero (e .rm)) (entriesAt log at)) j)
     (λ log at n j₀ j. n - j)
     (λ c κs. search needs)
     (λ c. record { same = refl })

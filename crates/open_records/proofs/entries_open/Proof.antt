@@ -14,7 +14,7 @@ entries-open-spec =
     (λ log records n sum₀ i₀ sum i. Summed (opensOf log records) sum i)
     (λ log records n sum₀ i₀ sum i. n - i)
     (λ c κs. search needs)
-    (λ c. record { within = omega arith; few = omega arith; same = omega arith })
+    (λ c. record { within = omega arith; few = omega arith; ahead = record { same = omega arith } })
     (λ c. search needs)
     (λ c. search needs)
     (λ c κs. search needs)

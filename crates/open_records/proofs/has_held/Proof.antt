@@ -4,7 +4,7 @@ use mathlib.Core.Path.{refl}
 use borrow.Author.Needs.{needs}
 use lib.Dec.{eqb}
 use Rattle.lists.specs.Lists.{any}
-use Rattle.lists.proofs.Loops.{Left, any-next, any-here, any-over}
+use Rattle.lists.proofs.Loops.{Ahead, any-next, any-here, any-over}
 use Rattle.rules.specs.Restart.{entriesOpen}
 use Rattle.log_reader.specs.Reading.{entriesAt}
 use Rattle.open_records.specs.Opening.{opensOf}
@@ -16,7 +16,7 @@ pub has-held-spec : {M : Type 1} → statement M
 has-held-spec =
     tie.close
     (tie.spec
-    (λ log records at n j₀ j. Left (any (λ e. any (λ d. eqb (d .number) (e .number)) (entriesOpen (opensOf log records)))) (entriesAt log at)
+    (λ log records at n j₀ j. Ahead (any (λ e. any (λ d. eqb (d .number) (e .number)) (entriesOpen (opensOf log records)))) (entriesAt log at)
     (any (λ e. any (λ d. eqb (d .number) (e .number)) (entriesOpen (opensOf log records))) (entriesAt log at)) j)
     (λ log records at n j₀ j. n - j)
     (λ c κs. search needs)

@@ -3,7 +3,7 @@ use Prim.Native.Nat.{_-_}
 use borrow.Author.Needs.{needs}
 use lib.Dec.{eqb}
 use Rattle.lists.specs.Lists.{any}
-use Rattle.lists.proofs.Loops.{Left, any-next, any-here, any-over}
+use Rattle.lists.proofs.Loops.{Ahead, any-next, any-here, any-over}
 use Rattle.rules.specs.Restart.{entriesOpen}
 use Rattle.open_records.specs.Opening.{opensOf}
 use Rattle.open_records.proofs.Rows.{open-next, opens-over, any-entries}
@@ -14,7 +14,7 @@ pub is-held-spec : {M : Type 1} → statement M
 is-held-spec =
     tie.close
     (tie.spec
-    (λ log number records n i₀ i. Left (any (λ o. any (λ d. eqb (d .number) number) (o .entries))) (opensOf log records) (any (λ d. eqb (d .number) number) (entriesOpen (opensOf log records))) i)
+    (λ log number records n i₀ i. Ahead (any (λ o. any (λ d. eqb (d .number) number) (o .entries))) (opensOf log records) (any (λ d. eqb (d .number) number) (entriesOpen (opensOf log records))) i)
     (λ log number records n i₀ i. n - i)
     (λ c κs. search needs)
     (λ c. record { same = any-entries _ _ })

@@ -3,7 +3,7 @@ use Prim.Native.Nat.{_-_}
 use mathlib.Core.Path.{refl}
 use borrow.Author.Needs.{needs}
 use Rattle.lists.specs.Lists.{any}
-use Rattle.lists.proofs.Loops.{Left, any-next, any-here, any-over}
+use Rattle.lists.proofs.Loops.{Ahead, any-next, any-here, any-over}
 use Rattle.rules.specs.Restart.{isOpenAs}
 use Rattle.open_records.specs.Opening.{opensOf}
 use Rattle.open_records.proofs.Rows.{open-next, opens-over}
@@ -14,7 +14,7 @@ pub is-open-spec : {M : Type 1} → statement M
 is-open-spec =
     tie.close
     (tie.spec
-    (λ log id records n i₀ i. Left (any (isOpenAs id)) (opensOf log records) (any (isOpenAs id) (opensOf log records)) i)
+    (λ log id records n i₀ i. Ahead (any (isOpenAs id)) (opensOf log records) (any (isOpenAs id) (opensOf log records)) i)
     (λ log id records n i₀ i. n - i)
     (λ c κs. search needs)
     (λ c. record { same = refl })
