@@ -1,4 +1,4 @@
--- Loops over the entries of a record: the next is read from the log, and what is left says what the whole says.
+-- Loops over the entries of a record: the next of those that are left is read from the log.
 use Prim.Native.Nat.{ℕ, zero, suc, _+_, _≤_, _<_}
 use native.Mathlib.Omega.{arith}
 use native.Mathlib.Numerals.{add-one}
@@ -44,9 +44,8 @@ module _ (log : List ℕ) (p j : ℕ) {n : ℕ} (e : n ≡ entriesCount log p) w
   pub entries-over : n ≤ j → drop j (entriesAt log p) ≡ []
   entries-over h = drop-done (entriesAt log p) j (omega (arith, entries-long log p))
 
--- ── what is left says what the whole says ───────────────────────────────────────────────────────────────────────
+-- ── whether no two have one resource manager ────────────────────────────────────────────────────────────────────
 
--- whether no two have one resource manager
 module _ {l : List Entry} {whole b : Bool} {x : Entry} {rm : Id} {i : ℕ} (p : Ahead (differ sameEntryManager) l whole i) (n : drop i l ≡ x ∷ drop (i + 1) l)
     (m : rm ≡ x .rm) (e : b ≡ any (λ y. sameBytes (y .rm) rm) (drop (i + 1) l)) where
   pub differ-next : b ≡ false → Ahead (differ sameEntryManager) l whole (i + 1)
