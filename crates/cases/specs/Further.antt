@@ -11,8 +11,9 @@ use Rattle.rules.specs.declared.Vote.the-variants.{Prepared}
 use Rattle.rules.specs.declared.Name.the-variants.{Prepare, Commit, AppCommitted, AnswerCommitted}
 use Rattle.rules.specs.declared.Act.the-variants.{Begin}
 use Rattle.cases.specs.Case.{Case, Call, restart, restartUsed, stepOver}
+use Rattle.rules.specs.Signals.{signal}
 use Rattle.rules.specs.Words.{id, event}
-use Rattle.cases.specs.Words.{begin, enlist, commit, rollback, vote, ack, lost, ask, reenlisted, line, signal, transaction, enlistment, table, log, from}
+use Rattle.cases.specs.Words.{begin, enlist, commit, rollback, vote, ack, lost, ask, reenlisted, line, transaction, enlistment, table, log, from}
 use Rattle.cases.specs.Twelve.{upFrom}
 
 -- one call on a table over a log that holds the header alone: refused, and nothing changes

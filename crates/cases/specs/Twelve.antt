@@ -9,8 +9,9 @@ use Rattle.rules.specs.declared.Mark.the-variants as mark
 use Rattle.rules.specs.declared.Vote.the-variants.{Prepared, ReadOnly}
 use Rattle.rules.specs.declared.Name.the-variants.{Prepare, Commit, Abort, AppCommitted, AppAborted, AnswerAborted}
 use Rattle.cases.specs.Case.{Case, Call, Line, restart}
+use Rattle.rules.specs.Signals.{signal}
 use Rattle.rules.specs.Words.{id}
-use Rattle.cases.specs.Words.{begin, enlist, commit, vote, lost, ask, line, signal, transaction, enlistment, table, header, log, from}
+use Rattle.cases.specs.Words.{begin, enlist, commit, vote, lost, ask, line, transaction, enlistment, table, header, log, from}
 
 -- from k, n of them
 unfoldable pub upFrom : ℕ → ℕ → List ℕ

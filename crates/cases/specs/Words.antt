@@ -8,7 +8,6 @@ use Rattle.rules.specs.declared.Table.{Table}
 use Rattle.rules.specs.declared.Kind.{Kind}
 use Rattle.rules.specs.declared.Mark.{Mark}
 use Rattle.rules.specs.declared.Vote.{Vote}
-use Rattle.rules.specs.declared.Name.{Name}
 use Rattle.rules.specs.declared.Signal.{Signal}
 use Rattle.rules.specs.Words as event
 use Rattle.rules.specs.Words.{id}
@@ -43,9 +42,6 @@ reenlisted r = step (event.reenlisted r)
 
 abbrev pub line : ℕ → ℕ → List Signal → Line
 line why used ss = record { refusal = why; used = used; signals = ss }
-
-abbrev pub signal : Name → ℕ → Signal
-signal a n = record { name = a; number = n }
 
 abbrev pub transaction : ℕ → ℕ → Transaction
 transaction t s = record { id = record { 0 = id t }; state = s }

@@ -1,7 +1,7 @@
 -- None passes if and only if no place is found; an enlistment with a number that is not zero is held if and only if the one that is found has it; and a reaction is refused with its own number.
 use Prim.Native.Nat.{ℕ}
 use mathlib.Core.Path.{_≡_, refl, sym}
-use mathlib.Core.Bool.{Bool, true, false, Bool·not-not}
+use mathlib.Core.Bool.{Bool, false, Bool·not-not}
 use mathlib.Core.List.{List, [], _∷_}
 use lib.Dec.{eqb}
 use borrow.Author.Tests.{ne-eqb, eqb-false}

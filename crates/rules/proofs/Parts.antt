@@ -17,7 +17,6 @@ use Rattle.rules.specs.declared.Table.{Table}
 use Rattle.rules.specs.Sizes.{recordSize, identifierSize}
 use Rattle.rules.specs.TransactionState as transaction
 use Rattle.rules.specs.EnlistmentState as enlistment
-use Rattle.rules.specs.Identifiers.{Id}
 use Rattle.rules.specs.Table.{noTransaction, isIn, isDone, held, transactionAt, stateAt, idAt, inTransactionState, freed, ended, changeHeld, goTo, emptied, useMore, isDurable}
 use Rattle.rules.specs.Sound.{isOpen, openCount, In, HoldsWell, Live, Sound}
 use Rattle.rules.specs.Log.{Record, recordBytes}

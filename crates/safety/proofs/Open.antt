@@ -18,7 +18,7 @@ use Rattle.rules.specs.Log.{Entry, Record}
 use Rattle.rules.specs.Restart.{Open, isOpenAs, afterRecord, openAfter, entriesOpen, ascendFrom, sameEntryManager, isFitting, allFitting}
 use Rattle.rules.proofs.Identifiers.{equal-same}
 use Rattle.rules.proofs.Records.{ValidEntry, Valid, valid-commit}
-use Rattle.rules.proofs.Restarts.{entries-append}
+use Rattle.rules.proofs.Restarts.{entries-append, entries-fewer}
 
 -- ── what is known of the open ones ──────────────────────────────────────────────────────────────────────────────
 
@@ -67,13 +67,6 @@ module _ (f : Open → Bool) where
       (λ t. rw t (apart-both (o .entries) (entriesOpen (filter f os)) (apart-first (o .entries) (entriesOpen os) a) (apart-entries os (apart-second (o .entries) (entriesOpen os) a)) (λ x y m n. apart-cross (o .entries) (entriesOpen os) a x y m (filter-entries os n))))
       (λ t. rw t (apart-entries os (apart-second (o .entries) (entriesOpen os) a)))
 
-  fewer-entries : (os : List Open) → length (entriesOpen (filter f os)) ≤ length (entriesOpen os)
-  unfolding filter entriesOpen
-  fewer-entries [] = omega arith
-  fewer-entries (o ∷ os) = let ih : length (entriesOpen (filter f os)) ≤ length (entriesOpen os) = fewer-entries os in by-test (f o)
-      (λ t. rw (t, length-append (o .entries) (entriesOpen (filter f os)), length-append (o .entries) (entriesOpen os)) (omega arith))
-      (λ t. rw (t, length-append (o .entries) (entriesOpen os)) (omega arith))
-
   fit-filter : (os : List Open) → Fit os → Fit (filter f os)
   fit-filter os k = record {
     id-sizes = λ o m. k .id-sizes o (of-filter f os m .0);
@@ -82,7 +75,7 @@ module _ (f : Open → Bool) where
     entries = λ o m. k .entries o (of-filter f os m .0);
     numbers-apart = apart-entries os (k .numbers-apart);
     few = omega (arith, k .few, length-filter f os);
-    few-entries = omega (arith, k .few-entries, fewer-entries os);
+    few-entries = omega (arith, k .few-entries, entries-fewer f os);
   }
 
 -- ── each record keeps it ────────────────────────────────────────────────────────────────────────────────────────
