@@ -7,6 +7,7 @@ use lib.Dec.{eqb}
 use lib.ListN.{length}
 use borrow.Author.Tests.{eqb-true, eqb-false}
 use Rattle.rules.specs.declared.Signals.{Signals}
+use Rattle.rules.specs.Sizes.{transactionPlaces, enlistmentPlaces}
 use Rattle.rules.specs.RefusalNumber as refusal
 use Rattle.rules.specs.Signals.{rowOf}
 use Rattle.rules.specs.Events.{Outcome}
@@ -17,7 +18,7 @@ use Rattle.entering.specs.declared.Answer.{Answer}
 use Rattle.entering.specs.StepIn.{Does}
 
 module _ (heads rows : List (List ℕ)) (capacity used : ℕ) (cs : List Check) (o : Outcome) (log : List ℕ) where
-  pub silent-does : {r : Answer} (why : ℕ) → length heads ≡ 32 → length rows ≡ 128 → why ≡ firstOf cs → eqb why refusal.accepted ≡ false → r ≡ record { signals = rowOf []; used = used; refusal = why }
+  pub silent-does : {r : Answer} (why : ℕ) → length heads ≡ transactionPlaces → length rows ≡ enlistmentPlaces → why ≡ firstOf cs → eqb why refusal.accepted ≡ false → r ≡ record { signals = rowOf []; used = used; refusal = why }
       → Does cs o (tableIn heads rows capacity used) log r heads rows log
   silent-does {r} why lh lr q z a = λ e c d.
       let n : why ≡ refusal.accepted → ⊥ = eqb-false why refusal.accepted z in
@@ -31,7 +32,7 @@ module _ (heads rows : List (List ℕ)) (capacity used : ℕ) (cs : List Check) 
         log = rw s;
       }
 
-  pub done-does : {r : Answer} {heads′ rows′ : List (List ℕ)} {after : List ℕ} {signals : Signals} {n : ℕ} (why : ℕ) → why ≡ firstOf cs → eqb why refusal.accepted ≡ true → length heads′ ≡ 32 → length rows′ ≡ 128
+  pub done-does : {r : Answer} {heads′ rows′ : List (List ℕ)} {after : List ℕ} {signals : Signals} {n : ℕ} (why : ℕ) → why ≡ firstOf cs → eqb why refusal.accepted ≡ true → length heads′ ≡ transactionPlaces → length rows′ ≡ enlistmentPlaces
       → tableIn heads′ rows′ capacity n ≡ o .table → signals ≡ rowOf (o .signals) → after ≡ o .log → r ≡ record { signals = signals; used = n; refusal = 0 }
       → Does cs o (tableIn heads rows capacity used) log r heads′ rows′ after
   done-does {r} {heads′} {rows′} {after} {signals} {n} why q z lh lr t s l a = λ e c d.

@@ -15,6 +15,7 @@ use Rattle.lists.proofs.Places.{IsPlace, at-below}
 use Rattle.rules.specs.declared.Enlistment.{Enlistment}
 use Rattle.rules.specs.declared.Table.{Table}
 use Rattle.rules.specs.declared.Name.the-variants as name
+use Rattle.rules.specs.Sizes.{transactionPlaces}
 use Rattle.rules.specs.EnlistmentState as enlistment
 use Rattle.rules.specs.Identifiers.{Id}
 use Rattle.rules.specs.Table.{noTransaction, noEnlistment, placeNamed, transactionAt, stateAt, heldBy, held, isIn}
@@ -59,7 +60,7 @@ module _ (heads rows : List (List ℕ)) (capacity used : ℕ) (id rm : Id) where
   pub asked-state : {p : ℕ} {h : Holding} → p ≡ placeNamed id tb → h ≡ taken p 0 tb → h .transaction .state ≡ stateAt (placeNamed id tb) tb
   asked-state named out = ap (λ g. g .transaction .state) out ∙ ap (λ q. stateAt q tb) named
 
-  pub asked-lacks : {p : ℕ} {h : Holding} {e : Enlistment} → Takes heads rows used p → length heads ≡ 32 → p ≡ placeNamed id tb → h ≡ taken p 0 tb
+  pub asked-lacks : {p : ℕ} {h : Holding} {e : Enlistment} → Takes heads rows used p → length heads ≡ transactionPlaces → p ≡ placeNamed id tb → h ≡ taken p 0 tb
       → e ≡ firstOr noEnlistment (isUndone rm) (held (h .place) (alone h)) → eqb (e .holder) 0 ≡ none (isUndone rm) (held (placeNamed id tb) tb)
   unfolding held
   asked-lacks {p} {h} {e} k long named out first =

@@ -8,10 +8,10 @@ use mathlib.Core.Bool.{true}
 use mathlib.Core.List.{List, [], _∷_}
 use lib.Dec.{eqb}
 use lib.ListN.{length}
-use borrow.Author.Tests.{eqb-true, eqb-false}
+use borrow.Author.Tests.{eqb-true, eqb-false, not-false}
 use Rattle.lists.specs.Lists.{all}
 use Rattle.lists.specs.Members.{Each}
-use Rattle.lists.proofs.Tests.{by-test, by-either, not-false, first-passes, each-map, each-nothing, each-more, each-head, each-rest}
+use Rattle.lists.proofs.Tests.{by-test, by-either, first-passes, each-map, each-nothing, each-more, each-head, each-rest}
 use Rattle.lists.proofs.Places.{IsPlace}
 use Rattle.rules.specs.declared.Enlistment.{Enlistment}
 use Rattle.rules.specs.declared.Table.{Table}

@@ -81,7 +81,7 @@ module _ (heads rows : List (List ℕ)) (capacity used : ℕ) where
 
     -- o is the outcome, of a place and a table
     pub takes-does : (cs : List Check) (o : ℕ → Table → Outcome) (log : List ℕ) {whole : Outcome} {why : ℕ} {d : Accepted} {r : Answer} {heads′ rows′ : List (List ℕ)} {after : List ℕ}
-        → length heads ≡ 32 → whole ≡ o p tb → why ≡ firstOf cs → eqb why refusal.accepted ≡ true
+        → length heads ≡ transactionPlaces → whole ≡ o p tb → why ≡ firstOf cs → eqb why refusal.accepted ≡ true
         → (IsPlace (tb .transactions) p → Fits tb p own → o p (within tb p own) ≡ through (within tb p) (o p own))
         → Gives (h .place) (o (h .place) (alone h)) d after → PutsBack heads rows d r heads′ rows′
         → Does cs whole tb log r heads′ rows′ after

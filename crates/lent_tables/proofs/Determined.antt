@@ -5,6 +5,7 @@ use mathlib.Core.Path.{_≡_, sym, _∙_}
 use mathlib.Core.List.{List, map}
 use lib.ListN.{length}
 use Rattle.lists.specs.Places.{changeAt}
+use Rattle.rules.specs.Sizes.{transactionPlaces, enlistmentPlaces}
 use Rattle.rules.specs.Table.{heldBy}
 use Rattle.holdings.specs.declared.Holding.{Holding}
 use Rattle.holdings.specs.Within.{taken, refill}
@@ -17,7 +18,7 @@ module _ (heads rows : List (List ℕ)) where
 
   abbrev Back : Holding → List (List ℕ) → List (List ℕ) → Type 0
   Back h heads′ rows′ =
-      (length heads′ ≡ 32) × (length rows′ ≡ 128)
+      (length heads′ ≡ transactionPlaces) × (length rows′ ≡ enlistmentPlaces)
       × (map transactionIn heads′ ≡ changeAt (h .place) (λ x. h .transaction) (map transactionIn heads))
       × (map enlistmentIn rows′ ≡ refill (heldBy (h .place)) (h .enlistments) (map enlistmentIn rows))
 

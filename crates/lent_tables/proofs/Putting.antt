@@ -9,13 +9,14 @@ use lib.Seq.{set-getD, drop-set-lt}
 use Rattle.lists.specs.Lists.{count}
 use Rattle.lists.proofs.Loops.{drop-at, Rewritten, rewrite-start, rewrite-again, rewrite-done}
 use Rattle.rules.specs.declared.Enlistment.{Enlistment}
+use Rattle.rules.specs.Sizes.{enlistmentPlaces}
 use Rattle.rules.specs.Table.{noEnlistment, heldBy}
 use Rattle.holdings.specs.Within.{refillFrom, refill}
 use Rattle.rows.specs.Memory.{enlistmentIn}
 use Rattle.rows.proofs.Mapped.{map-set}
 
 pub record Putting (p : ℕ) (hs : List Enlistment) (start rows : List (List ℕ)) (k i : ℕ) : Type 0 where
-  pub long : length rows ≡ 128
+  pub long : length rows ≡ enlistmentPlaces
   -- so many are still to come
   pub few : k + count (heldBy p) (drop i (map enlistmentIn rows)) ≤ 16
   pub rest : Rewritten 128 (refillFrom (heldBy p) k hs) (refill (heldBy p) hs (map enlistmentIn start)) (map enlistmentIn rows) i
@@ -51,6 +52,6 @@ module _ (p : ℕ) (hs : List Enlistment) (start rows : List (List ℕ)) {k i : 
     rest = rw (map-set enlistmentIn rows i row) (rewrite-again {h′ = refillFrom (heldBy p) (k + 1) hs} (enlistmentIn d) (t .rest) lt (λ xs. let e : k + 1 ≡ suc k = omega arith in rw (here, m, e, q)));
   }
 
-pub put-done : {p : ℕ} {hs : List Enlistment} {start rows : List (List ℕ)} {k i : ℕ} → Putting p hs start rows k i → 128 ≤ i → (length rows ≡ 128) × (map enlistmentIn rows ≡ refill (heldBy p) hs (map enlistmentIn start))
+pub put-done : {p : ℕ} {hs : List Enlistment} {start rows : List (List ℕ)} {k i : ℕ} → Putting p hs start rows k i → 128 ≤ i → (length rows ≡ enlistmentPlaces) × (map enlistmentIn rows ≡ refill (heldBy p) hs (map enlistmentIn start))
 unfolding refillFrom
 put-done t h = (t .long, rewrite-done (t .rest) h refl)

@@ -5,10 +5,10 @@ use mathlib.Core.Logic.{_⊎_, inl, inr, ⊎-map}
 use mathlib.Core.Bool.{Bool, true, false, cond, not, _&&_, _||_}
 use mathlib.Core.List.{List}
 use lib.Dec.{eqb, leb}
-use borrow.Author.Tests.{eqb-true, eq-eqb, leb-true, le-leb}
+use borrow.Author.Tests.{eqb-true, eq-eqb, leb-true, le-leb, not-true}
 use Rattle.lists.specs.Lists.{all, any, filter, differ}
 use Rattle.lists.specs.Members.{Each, Some, Apart}
-use Rattle.lists.proofs.Tests.{by-test, by-either, no-clash, is-false, and-true, true-and, or-true, true-or, not-true, false-not, all-each, each-all, any-some, some-any, in-filter, of-filter, differ-apart, apart-differ}
+use Rattle.lists.proofs.Tests.{by-test, by-either, no-clash, is-false, and-true, true-and, or-true, true-or, false-not, all-each, each-all, any-some, some-any, in-filter, of-filter, differ-apart, apart-differ}
 
 pub record Says (b : Bool) (P : Type 0) : Type 0 where
   pub out : b ≡ true → P

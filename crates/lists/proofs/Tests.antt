@@ -6,6 +6,7 @@ use mathlib.Core.Logic.{_⊎_, inl, inr}
 use mathlib.Core.Bool.{Bool, true, false, cond, not, _&&_, _||_, true≢false, false≢true}
 use mathlib.Core.List.{List, [], _∷_, _++_, map, List·Memᴰ·head, List·Memᴰ·tail, List·Memᴰ·cases-cons, List·Memᴰ·append-cases, List·Memᴰ·not-nil, Memᴰ·map, Memᴰ·of-map, Memᴰ·append-left, Memᴰ·append-right}
 use lib.ListN.{length, getD, take, drop, take-append-drop}
+use borrow.Author.Tests.{not-true}
 use Rattle.lists.specs.Lists.{all, any, none, filter, count, firstOr, differ, every}
 use Rattle.lists.specs.Members.{_∈_, Each, Some, Apart, nothing, more}
 
@@ -66,14 +67,6 @@ or-false p q = rw (p, q)
 pub false-or : (a b : Bool) → (a || b) ≡ false → (a ≡ false) × (b ≡ false)
 false-or true b e = absurd (true≢false e)
 false-or false b e = (refl, e)
-
-pub not-true : (b : Bool) → not b ≡ true → b ≡ false
-not-true true e = sym e
-not-true false e = refl
-
-pub not-false : (b : Bool) → not b ≡ false → b ≡ true
-not-false true e = refl
-not-false false e = sym e
 
 pub true-not : {b : Bool} → b ≡ true → not b ≡ false
 true-not e = rw e

@@ -5,9 +5,9 @@ use mathlib.Core.Bool.{Bool, true, false, not, true≢false, or-false}
 use mathlib.Core.List.{List, [], _∷_, _++_, map}
 use lib.Dec.{eqb}
 use lib.ListN.{getD}
-use borrow.Author.Tests.{eqb-true, eqb-false}
+use borrow.Author.Tests.{eqb-true, eqb-false, not-true, not-false}
 use Rattle.lists.specs.Lists.{all, any}
-use Rattle.lists.proofs.Tests.{by-test, true-and, not-true, not-false}
+use Rattle.lists.proofs.Tests.{by-test, true-and}
 use Rattle.rules.specs.declared.Table.{Table}
 use Rattle.rules.specs.declared.Event.{Event}
 use Rattle.rules.specs.declared.Act.{Act}

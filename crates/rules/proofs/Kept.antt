@@ -6,11 +6,11 @@ use mathlib.Core.Path.{_≡_, refl, sym, _∙_, ap, subst}
 use mathlib.Core.Bool.{true, _&&_, Bool, cond}
 use mathlib.Core.List.{List, map}
 use lib.Dec.{eqb}
-use borrow.Author.Tests.{eqb-true, eqb-false, ne-eqb}
+use borrow.Author.Tests.{eqb-true, eqb-false, ne-eqb, not-true}
 use Rattle.lists.specs.Lists.{filter}
 use Rattle.lists.specs.Members.{Each, Apart}
 use Rattle.lists.specs.Places.{at, changeAt}
-use Rattle.lists.proofs.Tests.{by-test, by-either, no-clash, true-and, and-true, false-not, not-true, filter-filter, by-cond, by-cases}
+use Rattle.lists.proofs.Tests.{by-test, by-either, no-clash, true-and, and-true, false-not, filter-filter, by-cond, by-cases}
 use Rattle.lists.proofs.Places.{IsPlace, place-or-nothing, length-change, at-change-same, at-change-other}
 use Rattle.rules.specs.declared.Transaction.{Transaction}
 use Rattle.rules.specs.declared.Enlistment.{Enlistment}

@@ -8,10 +8,10 @@ use mathlib.Core.Bool.{true, false, not, _&&_, _||_}
 use mathlib.Core.List.{List, map}
 use lib.ListN.{length, getD}
 use lib.Dec.{eqb, leb}
-use borrow.Author.Tests.{eqb-true, eqb-false, leb-false}
+use borrow.Author.Tests.{eqb-true, eqb-false, leb-false, not-false}
 use Rattle.lists.specs.Lists.{all, any, none}
 use Rattle.lists.specs.Members.{Each, Some}
-use Rattle.lists.proofs.Tests.{by-test, by-either, is-false, true-or, false-or, not-false}
+use Rattle.lists.proofs.Tests.{by-test, by-either, is-false, true-or, false-or}
 use Rattle.rules.specs.declared.Enlistment.{Enlistment}
 use Rattle.rules.specs.declared.Table.{Table}
 use Rattle.rules.specs.declared.Event.{Event}

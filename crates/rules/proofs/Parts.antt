@@ -7,10 +7,10 @@ use mathlib.Core.Logic.{_⊎_, inl, inr}
 use mathlib.Core.Bool.{true, false, not}
 use mathlib.Core.List.{List}
 use lib.ListN.{length}
-use borrow.Author.Tests.{eqb-true, eqb-false, lt-ltb, le-leb}
+use borrow.Author.Tests.{eqb-true, eqb-false, lt-ltb, le-leb, not-true}
 use Rattle.lists.specs.Lists.{all, any}
 use Rattle.lists.specs.Members.{Each, Some}
-use Rattle.lists.proofs.Tests.{by-test, by-either, no-clash, and-true, true-and, not-true, any-some, not-all}
+use Rattle.lists.proofs.Tests.{by-test, by-either, no-clash, and-true, true-and, any-some, not-all}
 use Rattle.lists.proofs.Places.{IsPlace, at-member}
 use Rattle.rules.specs.declared.Enlistment.{Enlistment}
 use Rattle.rules.specs.declared.Table.{Table}

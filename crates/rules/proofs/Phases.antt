@@ -7,11 +7,11 @@ use mathlib.Core.Bool.{true, false, _&&_}
 use mathlib.Core.List.{List, [], _∷_, map, List·Memᴰ·head}
 use lib.ListN.{length, length-map, length-append}
 use lib.Dec.{eqb}
-use borrow.Author.Tests.{eqb-true, eqb-false, eq-eqb, ne-eqb, ltb-false}
+use borrow.Author.Tests.{eqb-true, eqb-false, eq-eqb, ne-eqb, ltb-false, not-true}
 use Rattle.lists.specs.Lists.{all, any, none, filter}
 use Rattle.lists.specs.Members.{_∈_, Each, Some}
 use Rattle.lists.specs.Sorting.{sortBy}
-use Rattle.lists.proofs.Tests.{by-test, true-and, not-true, all-each, any-some, none-each, each-none, of-filter, each-map, filter-map}
+use Rattle.lists.proofs.Tests.{by-test, true-and, all-each, any-some, none-each, each-none, of-filter, each-map, filter-map}
 use Rattle.lists.proofs.Sorting.{length-sort, of-sort}
 use Rattle.rules.specs.declared.Enlistment.{Enlistment}
 use Rattle.rules.specs.declared.Table.{Table}

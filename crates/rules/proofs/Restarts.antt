@@ -8,10 +8,10 @@ use mathlib.Core.List.{List, [], _∷_, _++_, map, append-assoc}
 use lib.Dec.{ltb, leb}
 use lib.ListN.{length, take, drop, length-append, length-map, length-drop, take-append-drop}
 use lib.Seq.{length-take-le, take-nil, take-take, take-append-le, take-append-add}
-use borrow.Author.Tests.{ltb-true, ltb-false, leb-true, le-ltb, le-leb, lt-ltb}
+use borrow.Author.Tests.{ltb-true, ltb-false, leb-true, le-ltb, le-leb, lt-ltb, not-false}
 use Rattle.lists.specs.Lists.{filter}
 use Rattle.lists.specs.Members.{Each}
-use Rattle.lists.proofs.Tests.{by-test, true-and, and-true, false-or, not-false}
+use Rattle.lists.proofs.Tests.{by-test, true-and, and-true, false-or}
 use Rattle.rules.specs.Sizes.{headerSize, leastCapacity, largestCapacity}
 use Rattle.rules.specs.RefusalNumber as refusal
 use Rattle.rules.specs.Identifiers.{sameBytes}

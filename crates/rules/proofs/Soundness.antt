@@ -7,11 +7,11 @@ use mathlib.Core.Bool.{Bool, true, not, _||_, false≢true}
 use mathlib.Core.List.{List}
 use lib.Dec.{eqb, leb}
 use lib.ListN.{length}
-use borrow.Author.Tests.{eqb-true, eq-eqb}
+use borrow.Author.Tests.{eqb-true, eq-eqb, not-true}
 use Rattle.lists.specs.Lists.{all, filter, differ}
 use Rattle.lists.specs.Members.{Each, Some, Apart}
 use Rattle.lists.specs.Places.{eachPlace}
-use Rattle.lists.proofs.Tests.{by-test, by-either, true-and, and-true, not-true, false-not, every-at, holding-every, that-is-all, _also_}
+use Rattle.lists.proofs.Tests.{by-test, by-either, true-and, and-true, false-not, every-at, holding-every, that-is-all, _also_}
 use Rattle.lists.proofs.Places.{place-or-nothing, each-at, at-each}
 use Rattle.lists.proofs.Says.{Says, says-always, says-equal, says-most, says-both, says-either, says-not, says-unless, says-as, says-cond, says-all, says-any, says-of, says-apart}
 use Rattle.rules.specs.declared.Transaction.{Transaction}

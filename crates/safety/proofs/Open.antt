@@ -7,10 +7,10 @@ use mathlib.Core.Bool.{Bool, true, false, not, _&&_, false≢true}
 use mathlib.Core.List.{List, [], _∷_, _++_, append-nil, List·Memᴰ·head, List·Memᴰ·tail, List·Memᴰ·cases-cons, List·Memᴰ·append-cases, List·Memᴰ·not-nil, Memᴰ·append-left, Memᴰ·append-right}
 use lib.ListN.{length, length-append}
 use lib.Dec.{eqb, ltb, leb}
-use borrow.Author.Tests.{eq-eqb, ltb-true, leb-true, le-leb}
+use borrow.Author.Tests.{eq-eqb, ltb-true, leb-true, le-leb, not-true}
 use Rattle.lists.specs.Lists.{any, none, filter, differ}
 use Rattle.lists.specs.Members.{_∈_, Each, Some, Apart, nothing, more}
-use Rattle.lists.proofs.Tests.{by-test, by-either, no-clash, true-and, not-true, each-nothing, each-more, each-head, each-rest, of-filter, none-each, some-any, length-filter, differ-apart, each-both, each-one, in-one}
+use Rattle.lists.proofs.Tests.{by-test, by-either, no-clash, true-and, each-nothing, each-more, each-head, each-rest, of-filter, none-each, some-any, length-filter, differ-apart, each-both, each-one, in-one}
 use Rattle.lists.proofs.Apart.{apart-both, apart-first, apart-second, apart-cross, apart-filter}
 use Rattle.rules.specs.Identifiers.{Id, isZero}
 use Rattle.rules.specs.Sizes.{identifierSize, heldMost, transactionPlaces, enlistmentPlaces}

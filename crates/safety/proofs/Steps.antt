@@ -8,10 +8,10 @@ use mathlib.Core.Bool.{true, false, not, _||_}
 use mathlib.Core.List.{List, _++_, map}
 use lib.ListN.{length, take}
 use lib.Dec.{eqb, leb}
-use borrow.Author.Tests.{eqb-true, eqb-false}
+use borrow.Author.Tests.{eqb-true, eqb-false, not-false}
 use Rattle.lists.specs.Lists.{any, none}
 use Rattle.lists.specs.Members.{Each}
-use Rattle.lists.proofs.Tests.{by-test, no-clash, is-false, false-or, not-false}
+use Rattle.lists.proofs.Tests.{by-test, no-clash, is-false, false-or}
 use Rattle.rules.specs.declared.Table.{Table}
 use Rattle.rules.specs.declared.TxId.{TxId}
 use Rattle.rules.specs.declared.RmId.{RmId}

@@ -3,6 +3,7 @@
 ghost use mathlib.Core.Path.{_≡_};
 ghost use Prim.Native.Nat.{_≤_};
 ghost use lib.ListN.{length};
+ghost use Rattle.rules.specs.Sizes.{transactionPlaces, enlistmentPlaces};
 ghost use Rattle.trace.specs.Sessions.{Fits, Ready, Answers, Takes, Writes, TakesAll, Finishes, Starts};
 use libc::STDIN_FILENO;
 use libc::STDOUT_FILENO;
@@ -155,7 +156,7 @@ fn finish(
 
 // On a log that holds nothing yet.
 fn started(heads: &mut [[u8; 17]; 32], rows: &mut [[u8; 24]; 128], log: &mut [u8]) -> Session
-    requires { ⌜ (length (now heads) ≡ 32) × (length (now rows) ≡ 128) ⌝ }
+    requires { ⌜ (length (now heads) ≡ transactionPlaces) × (length (now rows) ≡ enlistmentPlaces) ⌝ }
     ensures { λ r. ⌜ Starts (now (log .entry)) r (now (heads .exit)) (now (rows .exit)) (now (log .exit)) ⌝ }
 {
     let r = restart::restart(log, 0);

@@ -11,7 +11,7 @@ use Rattle.rules.specs.declared.Event.{Event}
 use Rattle.rules.specs.declared.Order.the-variants as order
 use Rattle.rules.specs.declared.Signal.{Signal}
 use Rattle.rules.specs.declared.Restarted.{Restarted}
-use Rattle.rules.specs.Sizes.{signalsMost}
+use Rattle.rules.specs.Sizes.{transactionPlaces, enlistmentPlaces, signalsMost}
 use Rattle.rules.specs.RefusalNumber.{unreadableLine}
 use Rattle.rules.specs.Signals.{rowOf}
 use Rattle.rules.specs.Sound.{soundOf}
@@ -26,8 +26,8 @@ use Rattle.entering.specs.StepIn.{IsStepIn}
 use Rattle.trace_run.specs.declared.Left.{Left}
 use Rattle.trace_run.specs.Promises.{Holds, Answers, Obeys, ObeysIn}
 
-pub holds : {heads rows : List (List ℕ)} {tb : Table} → (length heads ≡ 32) × (map transactionIn heads ≡ tb .transactions)
-    → (length rows ≡ 128) × (map enlistmentIn rows ≡ tb .enlistments) → Holds heads rows tb
+pub holds : {heads rows : List (List ℕ)} {tb : Table} → (length heads ≡ transactionPlaces) × (map transactionIn heads ≡ tb .transactions)
+    → (length rows ≡ enlistmentPlaces) × (map enlistmentIn rows ≡ tb .enlistments) → Holds heads rows tb
 holds {tb = tb} (h, hs) (r, rs) = record {
   long-heads = h;
   long-rows = r;
@@ -36,7 +36,7 @@ holds {tb = tb} (h, hs) (r, rs) = record {
 
 -- the memory holds the table, and its numbers are answered
 answers-obey : {tb : Table} {capacity used why : ℕ} {sound : Bool} (ss : List Signal) {before after log left : List ℕ} {heads rows : List (List ℕ)} {r : Left}
-    → length heads ≡ 32 → length rows ≡ 128 → tableIn heads rows capacity used ≡ tb → left ≡ log → length ss ≤ signalsMost
+    → length heads ≡ transactionPlaces → length rows ≡ enlistmentPlaces → tableIn heads rows capacity used ≡ tb → left ≡ log → length ss ≤ signalsMost
     → Answers capacity used sound why (rowOf ss) before r after
     → ObeysIn (record { table = tb; log = log; output = outputOf why (tb .used) ss }) before r heads rows left after
 answers-obey {tb} {capacity} {used} {why} ss {before} h k t l few a =
@@ -54,7 +54,7 @@ answers-obey {tb} {capacity} {used} {why} ss {before} h k t l few a =
 
 -- nothing is changed
 pub unreadable-obeys : {capacity used : ℕ} {sound : Bool} {before after log : List ℕ} {heads rows : List (List ℕ)} {r : Left} (e : Event)
-    → (length heads ≡ 32) × (length rows ≡ 128) × (sound ≡ soundOf (tableIn heads rows capacity used))
+    → (length heads ≡ transactionPlaces) × (length rows ≡ enlistmentPlaces) × (sound ≡ soundOf (tableIn heads rows capacity used))
     → Answers capacity used sound unreadableLine (rowOf []) before r after
     → ObeysIn (obeyed order.Unreadable e (tableIn heads rows capacity used) log) before r heads rows log after × (r .sound ≡ soundOf (tableIn heads rows (r .capacity) (r .used)))
 unfolding obeyed
