@@ -65,7 +65,7 @@ fn commit_logged(h: Holding, log: &mut [u8]) -> Accepted
     let id = t.0;
     let entries = signals::line_up(h, Which::Durable);
     let told = committing(h);
-    let size = log::put_commit(log, told.used, id, entries);
+    let size = log_writer::put_commit(log, told.used, id, entries);
     let after = holdings::use_more(told, size);
     Accepted {
         holding: after,

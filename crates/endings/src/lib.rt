@@ -39,7 +39,7 @@ pub fn end(h: Holding, log: &mut [u8]) -> Holding
     let id = t.0;
     let after = holdings::emptied(h);
     if open {
-        let size = log::put_forget(log, after.used, id);
+        let size = log_writer::put_forget(log, after.used, id);
         return holdings::use_more(after, size);
     }
     after

@@ -5,9 +5,9 @@ use lib.ListN.{length, take}
 use lib.Seq.{length-take-le}
 use borrow.Author.Rules.{rules}
 use Rattle.lists.proofs.Loops.{long}
-use Rattle.log.proofs.Stores.{commit_stored, commit_length}
-use Rattle.log.proofs.put_commit.Statement.{statement}
-use Rattle.log.proofs.put_commit.Tie as tie
+use Rattle.log_writer.proofs.Stores.{commit_stored, commit_length}
+use Rattle.log_writer.proofs.put_commit.Statement.{statement}
+use Rattle.log_writer.proofs.put_commit.Tie as tie
 
 pub put_commit_spec : {M : Type 1} → statement M
 put_commit_spec =

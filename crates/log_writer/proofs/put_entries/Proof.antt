@@ -6,9 +6,9 @@ use lib.ListN.{take, length}
 use lib.Seq.{length-take-le, get_or-take}
 use borrow.Author.Rules.{rules}
 use Rattle.lists.proofs.Loops.{long}
-use Rattle.log.proofs.Stores.{Entered, enter_start, enter_again, enter_done}
-use Rattle.log.proofs.put_entries.Statement.{statement}
-use Rattle.log.proofs.put_entries.Tie as tie
+use Rattle.log_writer.proofs.Stores.{Entered, enter_start, enter_again, enter_done}
+use Rattle.log_writer.proofs.put_entries.Statement.{statement}
+use Rattle.log_writer.proofs.put_entries.Tie as tie
 
 pub put_entries_spec : {M : Type 1} → statement M
 put_entries_spec =

@@ -2,8 +2,8 @@
 use Prim.Native.Nat.{◌-◌}
 use borrow.Author.Rules.{rules}
 use Rattle.lists.proofs.Stores.{Stored, store_start, store_again, store_done}
-use Rattle.log.proofs.put_number.Statement.{statement}
-use Rattle.log.proofs.put_number.Tie as tie
+use Rattle.log_writer.proofs.put_number.Statement.{statement}
+use Rattle.log_writer.proofs.put_number.Tie as tie
 
 pub put_number_spec : {M : Type 1} → statement M
 put_number_spec =

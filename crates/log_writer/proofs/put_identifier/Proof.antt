@@ -3,8 +3,8 @@ use Prim.Native.Nat.{◌-◌}
 use borrow.Author.Rules.{rules}
 use Rattle.rules.specs.Sizes.{identifier_size}
 use Rattle.lists.proofs.Stores.{Stored, store_start, store_again, store_done}
-use Rattle.log.proofs.put_identifier.Statement.{statement}
-use Rattle.log.proofs.put_identifier.Tie as tie
+use Rattle.log_writer.proofs.put_identifier.Statement.{statement}
+use Rattle.log_writer.proofs.put_identifier.Tie as tie
 
 pub put_identifier_spec : {M : Type 1} → statement M
 put_identifier_spec =

@@ -3,8 +3,8 @@ use native.Mathlib.Omega.{arith}
 use lib.ListN.{length-append}
 use borrow.Author.Rules.{rules}
 use Rattle.lists.proofs.Stores.{sets_append}
-use Rattle.log.proofs.put_entry.Statement.{statement}
-use Rattle.log.proofs.put_entry.Tie as tie
+use Rattle.log_writer.proofs.put_entry.Statement.{statement}
+use Rattle.log_writer.proofs.put_entry.Tie as tie
 
 pub put_entry_spec : {M : Type 1} → statement M
 put_entry_spec =

@@ -3,9 +3,9 @@ use native.Mathlib.Omega.{arith}
 use mathlib.Core.Path.{sym}
 use borrow.Author.Rules.{rules}
 use Rattle.rules.proofs.Records.{forget_size_lem}
-use Rattle.log.proofs.Stores.{forget_stored}
-use Rattle.log.proofs.put_forget.Statement.{statement}
-use Rattle.log.proofs.put_forget.Tie as tie
+use Rattle.log_writer.proofs.Stores.{forget_stored}
+use Rattle.log_writer.proofs.put_forget.Statement.{statement}
+use Rattle.log_writer.proofs.put_forget.Tie as tie
 
 pub put_forget_spec : {M : Type 1} → statement M
 put_forget_spec =
