@@ -1,5 +1,7 @@
 // What an event that is not refused does: the new enlistment of Enlist, the events about one enlistment, and Ask.
 
+#![tactic(auto)]
+
 ghost use Rattle.std.specs.Prelude.{◌≡◌, cond, List, [], ◌∷◌, ℕ};
 ghost use Rattle.rules.specs.declared.FollowUp.TheVariants as then;
 ghost use Rattle.rules.specs.declared.Name.TheVariants as name;
@@ -28,7 +30,7 @@ fn is_zero_at_once(kind: Kind, state: u8) -> bool
     }
 }
 
-#[derive(Drop)]
+#[derive(Clone, Copy)]
 pub struct Enlisted {
     pub enlistment: Enlistment,
     pub signals: Signals,

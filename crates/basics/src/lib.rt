@@ -1,5 +1,7 @@
 // What every layer needs of truth values, and of numbers in bytes.
 
+#![tactic(auto)]
+
 ghost use Rattle.std.specs.Prelude.{◌≡◌, ◌&&◌, ◌||◌, ◌≤◌, [], ◌∷◌};
 ghost use Rattle.rules.specs.Log.{low4, number4};
 

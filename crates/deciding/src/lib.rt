@@ -1,5 +1,7 @@
 // Commit, from its first phase to the decision.
 
+#![tactic(auto)]
+
 ghost use Rattle.std.specs.Prelude.{◌≡◌, ◌&&◌, List, ℕ, eqb};
 ghost use Rattle.rules.specs.TransactionState as transaction;
 ghost use Rattle.rules.specs.Table.{held, id_at, go_to, change_held, in_state};

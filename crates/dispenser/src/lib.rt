@@ -1,4 +1,7 @@
 // The number dispenser, a small record the host lends: a covered step by value, and one thin function over it that moves the record on in place.
+
+#![tactic(auto)]
+
 ghost use Rattle.std.specs.Prelude.{◌≡◌, cond, ltb};
 ghost use Rattle.rules.specs.Dispenser.{number_after, largest_in, dispenser_of, taken_of};
 

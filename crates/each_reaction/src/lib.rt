@@ -1,5 +1,7 @@
 // The reaction to each kind of event that the enlistment's state alone decides.
 
+#![tactic(auto)]
+
 ghost use Rattle.std.specs.Prelude.{◌≡◌, cond, ◌||◌, eqb};
 ghost use Rattle.rules.specs.Events.{to_vote, to_reply};
 ghost use Rattle.rules.specs.EnlistmentState as enlistment;

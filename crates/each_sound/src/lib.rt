@@ -1,5 +1,7 @@
 // What is asked of one enlistment, and of one transaction with the counts of what it holds.
 
+#![tactic(auto)]
+
 ghost use Rattle.std.specs.Prelude.{◌≡◌, not};
 ghost use Rattle.rules.specs.Identifiers.{zero_id, same_bytes};
 ghost use Rattle.rules.specs.Sound.{may_hold, is_known, is_identifier, is_number, is_zero_transaction, is_zero_enlistment};

@@ -1,5 +1,7 @@
 // The end of a transaction, and its abort.
 
+#![tactic(auto)]
+
 ghost use Rattle.std.specs.Prelude.{◌≡◌, [], ◌+◌, ◌≤◌};
 ghost use Rattle.rules.specs.Sizes.{signals_most};
 ghost use Rattle.rules.specs.Log.{commit_size};
@@ -13,7 +15,7 @@ use passes::Change;
 use rules::{Name, Signals, transaction_state};
 use signals::Which;
 
-#[derive(Drop)]
+#[derive(Clone, Copy)]
 pub struct Accepted {
     pub holding: Holding,
     pub signals: Signals,

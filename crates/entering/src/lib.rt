@@ -1,5 +1,7 @@
 // What a step on a table in lent memory answers; and the events that enter something into the table: Begin and Enlist.
 
+#![tactic(auto)]
+
 ghost use Rattle.std.specs.Prelude.{◌≡◌, false, List, [], ℕ, eqb, length};
 ghost use Rattle.rules.specs.Sizes.{enlistment_places};
 ghost use Rattle.rules.specs.Table.{place_named};
@@ -12,7 +14,7 @@ ghost use Rattle.entering.specs.StepIn.{Fine, Does};
 use rules::{Kind, Mark, Signals, Transaction, TxId, refusal, transaction_state};
 
 // What a step answers beside the table, which it leaves in the memory.
-#[derive(Drop)]
+#[derive(Clone, Copy)]
 pub struct Answer {
     pub signals: Signals,
     pub used: u32,

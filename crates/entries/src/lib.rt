@@ -1,5 +1,7 @@
 // What is judged of the entries of one record, whatever is open: the record at a place of the log.
 
+#![tactic(auto)]
+
 ghost use Rattle.std.specs.Prelude.{◌≡◌, eqb, drop};
 ghost use Rattle.lists.specs.Lists.{any, differ};
 ghost use Rattle.rules.specs.Identifiers.{is_zero, same_bytes};

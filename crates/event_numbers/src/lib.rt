@@ -1,5 +1,7 @@
 // The paper's numbers: the kind and the mark that are stored of a new enlistment, and the refusal of a reaction.
 
+#![tactic(auto)]
+
 ghost use Rattle.std.specs.Prelude.{◌≡◌};
 ghost use Rattle.rules.specs.Events.{kind_of, mark_asked, mark_of};
 ghost use Rattle.rules.specs.Refusals.{reaction_refusal};

@@ -1,5 +1,7 @@
 // Each event on a table in lent memory, refused or done: the transaction that it is about is taken out, changed alone and put back.
 
+#![tactic(auto)]
+
 ghost use Rattle.std.specs.Prelude.{◌≡◌, List, map, ℕ, ◌*◌, ◌-◌, ◌≤◌, length};
 ghost use Rattle.lists.specs.Lists.{count};
 ghost use Rattle.rules.specs.Sizes.{transaction_places, enlistment_places, held_most, record_size};

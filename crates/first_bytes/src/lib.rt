@@ -1,5 +1,7 @@
 // What the first two bytes of a record say: its kind, and its size.
 
+#![tactic(auto)]
+
 ghost use Rattle.std.specs.Prelude.{◌≡◌, not, ◌||◌, eqb};
 ghost use Rattle.rules.specs.Log.{size_of, commit_tag, forget_tag};
 

@@ -1,5 +1,7 @@
 // Whether a whole record fits those that are open before it: what is judged at each as it is read.
 
+#![tactic(auto)]
+
 ghost use Rattle.std.specs.Prelude.{◌≡◌};
 ghost use Rattle.rules.specs.Log.{Record};
 ghost use Rattle.rules.specs.Restart.{is_fitting};

@@ -1,5 +1,7 @@
 // One transaction with what it holds, out of the table: what happens to it is handed from function to function, and a table would be copied each time.
 
+#![tactic(auto)]
+
 ghost use Rattle.std.specs.Prelude.{◌≡◌, ◌+◌, ◌≤◌};
 ghost use Rattle.rules.specs.Sizes.{largest_number};
 ghost use Rattle.rules.specs.Table.{held, freed, in_transaction_state, ended};
@@ -11,7 +13,7 @@ ghost use Rattle.holdings.specs.Holdings.{alone, with_held, with_transaction, wi
 use passes::{Census, Change};
 use rules::{Enlistment, Transaction, sizes, transaction_state};
 
-#[derive(Drop)]
+#[derive(Clone, Copy)]
 pub struct Holding {
     // Those that it holds, in their order; the rest is empty.
     pub enlistments: [Enlistment; 16],

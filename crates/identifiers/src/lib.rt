@@ -1,5 +1,7 @@
 // The 16 bytes of an identifier, whichever type wraps them.
 
+#![tactic(auto)]
+
 ghost use Rattle.std.specs.Prelude.{◌≡◌, ◌+◌, ◌*◌, ◌<◌};
 ghost use Rattle.rules.specs.Identifiers.{same_bytes, less_bytes, is_zero};
 ghost use Rattle.identifiers.specs.Words.{word};

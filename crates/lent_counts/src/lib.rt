@@ -1,5 +1,7 @@
 // What the transactions of a table in lent memory hold, and how many of them are open.
 
+#![tactic(auto)]
+
 ghost use Rattle.std.specs.Prelude.{◌≡◌, map, ◌&&◌, ℕ, ◌≤◌, length};
 ghost use Rattle.lists.specs.Lists.{any, filter};
 ghost use Rattle.rules.specs.Sizes.{transaction_places, enlistment_places};

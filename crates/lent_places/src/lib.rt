@@ -1,5 +1,7 @@
 // The places of a table in lent memory: found, read, and stored into. What is lent is not copied, and is changed where it stands.
 
+#![tactic(auto)]
+
 ghost use Rattle.std.specs.Prelude.{◌≡◌, map, length};
 ghost use Rattle.lists.specs.Lists.{first_or};
 ghost use Rattle.lists.specs.Places.{place_of, at, change_at};

@@ -1,5 +1,7 @@
 // A table is put into lent memory and read back; and of a table that is there, one transaction with what it holds is taken out and put back.
 
+#![tactic(auto)]
+
 ghost use Rattle.std.specs.Prelude.{◌≡◌, map, ℕ, ◌≤◌, length};
 ghost use Rattle.lists.specs.Lists.{filter, count};
 ghost use Rattle.lists.specs.Places.{change_at};

@@ -1,1 +1,3 @@
 // Lists as the rules speak of them: definitions in specs/, laws in proofs/. There is no code here.
+
+#![tactic(auto)]

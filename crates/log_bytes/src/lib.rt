@@ -1,5 +1,7 @@
 // One byte of the log: past its end it reads as 0, and none is written.
 
+#![tactic(auto)]
+
 ghost use Rattle.std.specs.Prelude.{◌≡◌, ◌+◌, get_or, set};
 
 // The byte i places behind `from` behind `at`: three numbers, so that no sum wraps.

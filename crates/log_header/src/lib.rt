@@ -1,5 +1,7 @@
 // The header of the log: whether the log begins with it, and writing it.
 
+#![tactic(auto)]
+
 ghost use Rattle.std.specs.Prelude.{◌≡◌, get_or};
 ghost use Rattle.rules.specs.Identifiers.{same_bytes};
 ghost use Rattle.rules.specs.Log.{header, written};

@@ -1,5 +1,7 @@
 // What stands at a place of the log: the parts of a record, and whether one stands there whole. Past the end of the log each byte reads as 0.
 
+#![tactic(auto)]
+
 ghost use Rattle.std.specs.Prelude.{◌≡◌, ◌+◌, ◌-◌, get_or};
 ghost use Rattle.rules.specs.Sizes.{identifier_size};
 ghost use Rattle.rules.specs.Log.{number4, size_of};

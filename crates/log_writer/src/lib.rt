@@ -1,5 +1,7 @@
 // The log's records, stored at an offset. What would lie past the end of the log is not stored.
 
+#![tactic(auto)]
+
 ghost use Rattle.std.specs.Prelude.{◌≡◌, map, ◌+◌, ◌*◌, ◌≤◌, length, take};
 ghost use Rattle.std.proofs.lemmas.List.Edits.{sets};
 ghost use Rattle.rules.specs.Sizes.{signals_most, identifier_size, largest_number, record_size, entry_size};

@@ -1,5 +1,7 @@
 // The reaction to a lost connection, by the enlistment's kind and state.
 
+#![tactic(auto)]
+
 ghost use Rattle.std.specs.Prelude.{◌≡◌, cond};
 ghost use Rattle.rules.specs.Table.{durable_kind};
 ghost use Rattle.rules.specs.Events.{to_lost};

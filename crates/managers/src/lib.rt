@@ -1,5 +1,7 @@
 // A resource manager's durable enlistments: which place holds one, and what becomes of those that failed to notify it.
 
+#![tactic(auto)]
+
 ghost use Rattle.std.specs.Prelude.{◌≡◌, not, ◌&&◌, map};
 ghost use Rattle.lists.specs.Lists.{first_or};
 ghost use Rattle.lists.specs.Places.{place_of};

@@ -1,4 +1,7 @@
 // The fields of a message: six of 32 bits, low byte first, and then identifiers.
+
+#![tactic(auto)]
+
 ghost use Rattle.std.specs.Prelude.{◌≡◌, ◌+◌, ◌≤◌, length};
 ghost use Rattle.std.proofs.lemmas.List.Edits.{sets};
 ghost use Rattle.rules.specs.Sizes.{identifier_size};

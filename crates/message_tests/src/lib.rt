@@ -1,4 +1,7 @@
 // Whether bytes are a message, and whether a message can be written so that it reads back.
+
+#![tactic(auto)]
+
 ghost use Rattle.std.specs.Prelude.{◌≡◌, ◌&&◌, [], ◌∷◌, leb};
 ghost use Rattle.lists.specs.Lists.{every};
 ghost use Rattle.rules.specs.Identifiers.{zero_id, same_bytes};

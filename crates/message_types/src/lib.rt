@@ -1,10 +1,13 @@
 // The types of the eight messages, and the length of the payload of each.
+
+#![tactic(auto)]
+
 ghost use Rattle.std.specs.Prelude.{◌≡◌};
 ghost use Rattle.rules.specs.Messages.{is_type, payload_of};
 
 use rules::{message_type, sizes};
 
-#[derive(Drop)]
+#[derive(Clone, Copy)]
 struct MessageType {
     kind: u32,
     payload: u32,
@@ -56,7 +59,7 @@ const TYPES: [MessageType; COUNT] = [
 ];
 
 // Whether a type is one of the eight, and its payload length, 0 if it is none.
-#[derive(Drop)]
+#[derive(Clone, Copy)]
 pub struct Payload {
     pub known: bool,
     pub length: u32,

@@ -1,4 +1,7 @@
 // The eight messages, read and written (document 01, 'The eight messages'; source document 000, section 2.2.4.1).
+
+#![tactic(auto)]
+
 ghost use Rattle.std.specs.Prelude.{◌≡◌, true, ◌+◌, ◌≤◌, length};
 ghost use Rattle.std.proofs.lemmas.List.Edits.{sets};
 ghost use Rattle.rules.specs.Sizes.{identifier_size, message_header_size};

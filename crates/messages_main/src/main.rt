@@ -2,6 +2,9 @@
 // as MS-DTYP (section 2.3.4.2) lays it out: its first three fields low byte first, then eight bytes as they are printed. (The four words
 // that section 4 prints beside a GUID have its ninth and tenth byte exchanged.)
 // A line is what the reader makes of a vector, and then what the writer makes of the reader's message in 58 bytes of ee.
+
+#![tactic(auto)]
+
 ghost use Rattle.std.specs.Prelude.{◌≤◌, ◌<◌};
 
 use message_fields::{CONNECTION_AT, LENGTH_AT, MASTER_AT, RESERVED_AT, TAG_AT, TYPE_AT};

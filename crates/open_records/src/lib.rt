@@ -1,5 +1,7 @@
 // The records that are open while a log is read. An open record is held by the place in the log where it begins.
 
+#![tactic(auto)]
+
 ghost use Rattle.std.specs.Prelude.{◌≡◌, ◌*◌, ◌≤◌, eqb, length};
 ghost use Rattle.lists.specs.Lists.{any};
 ghost use Rattle.rules.specs.Sizes.{transaction_places};
@@ -9,7 +11,7 @@ ghost use Rattle.open_records.specs.Opening.{starts_of, opens_of, none_open, wit
 
 use rules::sizes;
 
-#[derive(Drop)]
+#[derive(Clone, Copy)]
 pub struct OpenRecords {
     // The first count are in use, by order of commit records.
     pub starts: [usize; 32],

@@ -1,5 +1,7 @@
 // One pass over the enlistments of one transaction: what they are, and what becomes of each. p is the transaction's place.
 
+#![tactic(auto)]
+
 ghost use Rattle.std.specs.Prelude.{◌≡◌, cond, ◌<◌};
 ghost use Rattle.rules.specs.Sizes.{enlistment_places};
 ghost use Rattle.rules.specs.Table.{held, held_by, freed, in_state, on_number};
@@ -10,7 +12,7 @@ ghost use Rattle.passes.specs.Change.{change_of};
 use rules::{Enlistment, Table, enlistment_state, kinds, marks, sizes};
 
 // How many a transaction holds, and how many of them are such.
-#[derive(Drop)]
+#[derive(Clone, Copy)]
 pub struct Census {
     pub held: u8,
     pub phase_zero: u8,
@@ -81,7 +83,7 @@ pub fn count_held(table: Table, p: u8) -> Census
 }
 
 // What becomes of an enlistment.
-#[derive(Drop)]
+#[derive(Clone, Copy)]
 pub enum Change {
     Freed,
     Becomes(u8),

@@ -1,5 +1,7 @@
 // The places of the table: what stands in one, and what is put there. Places are numbered from 1; 0 is none, reads as empty and takes nothing.
 
+#![tactic(auto)]
+
 ghost use Rattle.std.specs.Prelude.{◌≡◌};
 ghost use Rattle.lists.specs.Places.{change_at};
 ghost use Rattle.rules.specs.Table.{no_transaction, no_enlistment, fresh_of, transaction_at, with_enlistments, change_transaction};

@@ -1,5 +1,7 @@
 // What an event about one enlistment does to it, by its kind and state, and what follows; and the kind and the mark that are stored of a new one.
 
+#![tactic(auto)]
+
 ghost use Rattle.std.specs.Prelude.{◌≡◌};
 ghost use Rattle.rules.specs.Events.{reaction_of};
 

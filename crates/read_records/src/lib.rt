@@ -1,5 +1,7 @@
 // Reading the records of a log, from behind its header on.
 
+#![tactic(auto)]
+
 ghost use Rattle.std.specs.Prelude.{◌≡◌, ◌≤◌, length};
 ghost use Rattle.rules.specs.Sizes.{header_size};
 ghost use Rattle.read_records.specs.Readback.{damaged_readings, Read};
@@ -10,7 +12,7 @@ use rules::sizes;
 const HEADER: usize = sizes::HEADER as usize;
 
 // What reading the records gave.
-#[derive(Drop)]
+#[derive(Clone, Copy)]
 pub struct Readings {
     pub damaged: bool,
     pub used: usize,

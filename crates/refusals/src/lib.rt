@@ -1,5 +1,7 @@
 // Why an event is refused: the first check that applies, in the order of document 01. The caller looks up what a check asks of the table: proofs/Found.antt says that the answer is then the table's own.
 
+#![tactic(auto)]
+
 ghost use Rattle.std.specs.Prelude.{◌≡◌, ◌&&◌, ◌||◌, eqb, leb};
 ghost use Rattle.rules.specs.Sizes.{held_most};
 ghost use Rattle.rules.specs.Identifiers.{is_zero};

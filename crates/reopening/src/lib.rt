@@ -1,5 +1,7 @@
 // The table of the open records: their transactions and their entries, put into an empty table in the order of commit records.
 
+#![tactic(auto)]
+
 ghost use Rattle.std.specs.Prelude.{◌≡◌, set};
 ghost use Rattle.rules.specs.Table.{with_enlistments};
 ghost use Rattle.rules.specs.Restart.{reopened, reenlistment};

@@ -1,5 +1,7 @@
 // Restart: from the lent log, whose length is the capacity, and the count of stored bytes to a table.
 
+#![tactic(auto)]
+
 ghost use Rattle.std.specs.Prelude.{◌≡◌, ◌||◌, ◌≤◌, ltb, length};
 ghost use Rattle.rules.specs.Sizes.{header_size, least_capacity, largest_capacity};
 ghost use Rattle.rules.specs.Restart.{IsRestart, body_of, read_back, restarted_of};

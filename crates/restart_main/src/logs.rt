@@ -86,7 +86,7 @@ pub fn forget(log: &mut [u8], at: usize, t: u8) -> usize {
 
 // ---- Of 4,096 bytes.
 
-#[derive(Drop)]
+#[derive(Clone, Copy)]
 pub struct Made {
     pub log: [u8; 4096],
     // Behind its last record.

@@ -1,5 +1,8 @@
 // Restarts over stored logs. For each: the refusal, used, how many bytes of the log changed, the number that the dispenser gives first, and the table:
 // a transaction as its last byte and state, and behind it its enlistments as number/resource manager/kind/mark/state. Last the listing.
+
+#![tactic(auto)]
+
 mod logs;
 mod shown;
 

@@ -1,5 +1,7 @@
 // How memory holds a table: a transaction is 17 bytes, an enlistment 24. Here one of them is read, and spelt.
 
+#![tactic(auto)]
+
 ghost use Rattle.std.specs.Prelude.{◌≡◌, ◌≤◌, length, take};
 ghost use Rattle.rules.specs.Sizes.{identifier_size};
 ghost use Rattle.rows.specs.Memory.{transaction_in, number_in, enlistment_in};

@@ -1,5 +1,7 @@
 // The types of the coordinator. Every rule about them stands in specs/, in the order of document 01; there is no code here.
 
+#![tactic(auto)]
+
 pub mod enlistment_state;
 pub mod kinds;
 pub mod marks;
@@ -10,25 +12,25 @@ pub mod transaction_state;
 
 // ---- Identifiers. Three types over 16 bytes, so that none can stand for another.
 
-#[derive(Drop)]
+#[derive(Clone, Copy)]
 pub struct TxId(pub [u8; 16]);
 
-#[derive(Drop)]
+#[derive(Clone, Copy)]
 pub struct RmId(pub [u8; 16]);
 
-#[derive(Drop)]
+#[derive(Clone, Copy)]
 pub struct SessionId(pub [u8; 16]);
 
 // ---- The table. Kinds, marks and states are numbers in it, since a table may come in unsound. An empty place is all zeros.
 
-#[derive(Drop)]
+#[derive(Clone, Copy)]
 pub struct Transaction {
     pub id: TxId,
     pub state: u8,
 }
 
 // The number first and the bytes behind it, so that nothing pads: a table has 128 of these, and by value it is copied.
-#[derive(Drop)]
+#[derive(Clone, Copy)]
 pub struct Enlistment {
     pub number: u32,
     pub rm: RmId,
@@ -39,7 +41,7 @@ pub struct Enlistment {
     pub state: u8,
 }
 
-#[derive(Drop)]
+#[derive(Clone, Copy)]
 pub struct Table {
     pub transactions: [Transaction; 32],
     pub enlistments: [Enlistment; 128],
@@ -50,7 +52,7 @@ pub struct Table {
 
 // ---- Events. The identifiers stand beside the enum, since an enum that holds an array is not covered.
 
-#[derive(Drop)]
+#[derive(Clone, Copy)]
 pub enum Kind {
     PhaseZero,
     Volatile,
@@ -58,13 +60,13 @@ pub enum Kind {
 }
 
 // The single-phase mark.
-#[derive(Drop)]
+#[derive(Clone, Copy)]
 pub enum Mark {
     No,
     Yes,
 }
 
-#[derive(Drop)]
+#[derive(Clone, Copy)]
 pub enum Vote {
     Prepared,
     ReadOnly,
@@ -72,7 +74,7 @@ pub enum Vote {
 }
 
 // To single.
-#[derive(Drop)]
+#[derive(Clone, Copy)]
 pub enum Reply {
     Committed,
     Aborted,
@@ -80,7 +82,7 @@ pub enum Reply {
 }
 
 // A number is an enlistment's.
-#[derive(Drop)]
+#[derive(Clone, Copy)]
 pub enum Act {
     Begin,
     Enlist(u32, Kind, Mark),
@@ -96,7 +98,7 @@ pub enum Act {
 }
 
 // An act that names no transaction, or no resource manager, does not look at that identifier.
-#[derive(Drop)]
+#[derive(Clone, Copy)]
 pub struct Event {
     pub tx: TxId,
     pub rm: RmId,
@@ -105,7 +107,7 @@ pub struct Event {
 
 // ---- Signals.
 
-#[derive(Drop)]
+#[derive(Clone, Copy)]
 pub enum Name {
     // Of a place in the row that holds no signal.
     Nothing,
@@ -123,14 +125,14 @@ pub enum Name {
 }
 
 // The number of the enlistment that it goes to, or that it answers about; 0 for the application and for answer-aborted.
-#[derive(Drop)]
+#[derive(Clone, Copy)]
 pub struct Signal {
     pub name: Name,
     pub number: u32,
 }
 
 // The first count of the items are the signals, in their order; the others hold none.
-#[derive(Drop)]
+#[derive(Clone, Copy)]
 pub struct Signals {
     pub items: [Signal; 17],
     pub count: u8,
@@ -138,7 +140,7 @@ pub struct Signals {
 
 // ---- What an event about one enlistment does: to it, and then to its transaction.
 
-#[derive(Drop)]
+#[derive(Clone, Copy)]
 pub enum FollowUp {
     Nothing,
     // If no phase-zero enlistment is left.
@@ -152,7 +154,7 @@ pub enum FollowUp {
     EndWith(Name),
 }
 
-#[derive(Drop)]
+#[derive(Clone, Copy)]
 pub enum Reaction {
     Refused,
     Freed(FollowUp),
@@ -163,32 +165,32 @@ pub enum Reaction {
 // ---- Answers. Refusal 0 is done.
 
 // The table first, so that it is put where it stays.
-#[derive(Drop)]
+#[derive(Clone, Copy)]
 pub struct Stepped {
     pub table: Table,
     pub signals: Signals,
     pub refusal: u8,
 }
 
-#[derive(Drop)]
+#[derive(Clone, Copy)]
 pub struct Restarted {
     pub refusal: u8,
     pub table: Table,
 }
 
 // The number to be given next; 0 once all are given.
-#[derive(Drop)]
+#[derive(Clone, Copy)]
 pub struct Dispenser {
     pub next: u32,
 }
 
-#[derive(Drop)]
+#[derive(Clone, Copy)]
 pub struct Taken {
     pub number: u32,
     pub dispenser: Dispenser,
 }
 
-#[derive(Drop)]
+#[derive(Clone, Copy)]
 pub struct Row {
     pub id: TxId,
     pub state: u8,
@@ -197,7 +199,7 @@ pub struct Row {
     pub undone: u8,
 }
 
-#[derive(Drop)]
+#[derive(Clone, Copy)]
 pub struct Listed {
     pub refusal: u8,
     pub count: usize,
@@ -205,7 +207,7 @@ pub struct Listed {
 
 // ---- Messages. A field that the message's type does not have is zero.
 
-#[derive(Drop)]
+#[derive(Clone, Copy)]
 pub struct Message {
     // fIsMaster: 0 or 1.
     pub master: u32,
@@ -218,13 +220,13 @@ pub struct Message {
     pub session: SessionId,
 }
 
-#[derive(Drop)]
+#[derive(Clone, Copy)]
 pub struct Read {
     pub refusal: u8,
     pub message: Message,
 }
 
-#[derive(Drop)]
+#[derive(Clone, Copy)]
 pub struct Written {
     pub refusal: u8,
     pub length: usize,
@@ -232,14 +234,14 @@ pub struct Written {
 
 // ---- A line of the trace program. The event is all zeros, with Begin, where the order is not Step.
 
-#[derive(Drop)]
+#[derive(Clone, Copy)]
 pub enum Order {
     Unreadable,
     Restart,
     Step,
 }
 
-#[derive(Drop)]
+#[derive(Clone, Copy)]
 pub struct Command {
     pub order: Order,
     pub event: Event,

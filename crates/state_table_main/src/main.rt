@@ -1,5 +1,8 @@
 // Rows of the state table: each line of standard input is a table, the length of the lent log and an event; the step is taken, and all that came of it
 // is written as a line.
+
+#![tactic(auto)]
+
 mod reader;
 mod writer;
 
@@ -11,7 +14,7 @@ use rules::{Event, Order};
 const UNWRITTEN: u8 = 0xEE;
 
 // Between two blocks of the input.
-#[derive(Drop)]
+#[derive(Clone, Copy)]
 struct Progress {
     kept: usize,
     more: bool,

@@ -8,7 +8,7 @@ const LAST: usize = IDENTIFIER - 1;
 // Of a table.
 const PLACES: u8 = (sizes::TRANSACTIONS + sizes::ENLISTMENTS) as u8;
 
-#[derive(Drop)]
+#[derive(Clone, Copy)]
 pub struct Row {
     pub table: Table,
     pub lent: usize,
@@ -17,14 +17,14 @@ pub struct Row {
 }
 
 // A number, and the place behind it.
-#[derive(Drop)]
+#[derive(Clone, Copy)]
 struct Number {
     value: u32,
     next: usize,
 }
 
 // So far: places of each sort that are read, and the place in the line.
-#[derive(Drop)]
+#[derive(Clone, Copy)]
 struct Reading {
     table: Table,
     transactions: u8,

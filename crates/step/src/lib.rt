@@ -1,5 +1,7 @@
 // A step: refused, or done.
 
+#![tactic(auto)]
+
 ghost use Rattle.std.specs.Prelude.{◌≡◌, length};
 ghost use Rattle.rules.specs.Sizes.{transaction_places, enlistment_places};
 ghost use Rattle.rules.specs.Table.{fresh_of};

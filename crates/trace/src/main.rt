@@ -1,5 +1,7 @@
 // The trace program: obeys the lines of standard input on an empty 4,096-byte log, and writes one line for each.
 
+#![tactic(auto)]
+
 ghost use Rattle.std.specs.Prelude.{◌≡◌, ◌≤◌, length};
 ghost use Rattle.rules.specs.Sizes.{transaction_places, enlistment_places};
 ghost use Rattle.trace.specs.Sessions.{Fits, Ready, Answers, Takes, Writes, TakesAll, Finishes, Starts};

@@ -1,5 +1,7 @@
 // Commands of one to three words. Those of five and six stand in trace_enlist; no other line can be read.
 
+#![tactic(auto)]
+
 ghost use Rattle.std.specs.Prelude.{◌≡◌, [], ◌∷◌};
 ghost use Rattle.rules.specs.Identifiers.{zero_id};
 ghost use Rattle.rules.specs.Trace as Trace;

@@ -1,5 +1,7 @@
 // Commands of five and six words, which enlist; the sixth is the single-phase mark.
 
+#![tactic(auto)]
+
 ghost use Rattle.std.specs.Prelude.{◌≡◌, [], ◌∷◌};
 ghost use Rattle.rules.specs.Trace.{words_read, enlist_as, enlist_marked, enlist_line_marked};
 

@@ -1,5 +1,7 @@
 // Lines of the trace program: an input line to a command, and a result to its output line.
 
+#![tactic(auto)]
+
 ghost use Rattle.std.specs.Prelude.{◌≡◌, ◌∷◌, ◌+◌, ◌*◌, ◌≤◌, min, take};
 ghost use Rattle.rules.specs.Sizes.{signals_most};
 ghost use Rattle.rules.specs.Trace.{words, words_read, signal_texts};

@@ -1,5 +1,7 @@
 // Reads each line of standard input and writes the parts of its command, and then some output lines.
 
+#![tactic(auto)]
+
 ghost use Rattle.std.specs.Prelude.{◌≤◌, length};
 
 use rules::sizes::IDENTIFIER;

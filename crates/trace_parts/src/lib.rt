@@ -1,5 +1,7 @@
 // The parts of an output line: texts, numbers, names and signals, each put into the line's buffer behind what stands there.
 
+#![tactic(auto)]
+
 ghost use Rattle.std.specs.Prelude.{◌≡◌, ◌+◌, ◌≤◌, length};
 ghost use Rattle.rules.specs.Trace.{decimal, name_text};
 ghost use Rattle.trace_parts.specs.Puts.{Puts, Converts, padded_name, signal_text, digits_most, name_most, signal_most, output_most};
@@ -16,7 +18,7 @@ const DIGITS: usize = 10;
 const NAME: usize = 16;
 
 // A number in decimal: what stands in bytes from `from` on.
-#[derive(Drop)]
+#[derive(Clone, Copy)]
 struct Decimal {
     bytes: [u8; DIGITS],
     from: usize,

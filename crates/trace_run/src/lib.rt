@@ -1,5 +1,7 @@
 // A line of the trace program, obeyed: read, done, and answered by an output line.
 
+#![tactic(auto)]
+
 ghost use Rattle.std.specs.Prelude.{ℕ, ◌≡◌, [], length};
 ghost use Rattle.rules.specs.Sizes.{transaction_places, enlistment_places};
 ghost use Rattle.rules.specs.declared.Event.{Event};
@@ -15,14 +17,14 @@ use rules::{Event, Order, Signals, Table, refusal};
 use trace_line::OUTPUT;
 
 // The table after the line, and the size of the output line, with its newline.
-#[derive(Drop)]
+#[derive(Clone, Copy)]
 pub struct Obeyed {
     pub table: Table,
     pub size: usize,
 }
 
 // The same of a table whose transactions and enlistments are in lent memory, and whether it is sound.
-#[derive(Drop)]
+#[derive(Clone, Copy)]
 pub struct Left {
     pub capacity: u32,
     pub used: u32,

@@ -1,5 +1,7 @@
 // What the trace program counts between two bytes of its input, and the steps of it that look at no table.
 
+#![tactic(auto)]
+
 ghost use Rattle.std.specs.Prelude.{◌≡◌, ◌+◌, ◌≤◌, min, leb, length};
 ghost use Rattle.trace_parts.specs.Puts.{output_most};
 ghost use Rattle.trace_session.specs.Counts.{line_kept, room, Keeps, Parts, flushed_of};
@@ -17,7 +19,7 @@ const NEWLINE: u8 = b'\n';
 
 // Of the table, whose transactions and enlistments are in memory of their own, the capacity, the used length, and whether it is sound; how many bytes of the present
 // line are kept, of the present block are taken, and of output wait; and whether the output still takes any.
-#[derive(Drop)]
+#[derive(Clone, Copy)]
 pub struct Session {
     pub capacity: u32,
     pub used: u32,
@@ -29,7 +31,7 @@ pub struct Session {
 }
 
 // A part of a block: where it ends, whether a newline stands there, and how much of the block is taken with it.
-#[derive(Drop)]
+#[derive(Clone, Copy)]
 pub struct Part {
     pub end: usize,
     pub whole: bool,

@@ -1,5 +1,7 @@
 // The words of a trace line: where one ends, and what it says.
 
+#![tactic(auto)]
+
 ghost use Rattle.std.specs.Prelude.{◌≡◌};
 ghost use Rattle.rules.specs.Identifiers.{same_bytes};
 ghost use Rattle.trace_words.specs.Words.{word_end, extended_of, digits_value, numeral_of, number_of, identifier_word_of};
@@ -18,14 +20,14 @@ const LAST: usize = IDENTIFIER - 1;
 const LARGEST_BYTE: u64 = u8::MAX as u64;
 
 // What a word says where it names an enlistment's number; 0 where it can't be read.
-#[derive(Drop)]
+#[derive(Clone, Copy)]
 pub struct Number {
     pub readable: bool,
     pub value: u32,
 }
 
 // What a word says where it names a transaction or a resource manager; zeros where it can't be read.
-#[derive(Drop)]
+#[derive(Clone, Copy)]
 pub struct Identifier {
     pub readable: bool,
     pub bytes: [u8; IDENTIFIER],

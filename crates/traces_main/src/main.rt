@@ -1,5 +1,8 @@
 // Runs the worked stories that its arguments name, each on a fresh table and an empty log. Besides the lines of the trace program a story
 // may say `log N`, which starts on an empty log of N bytes, and `torn K`, which restarts with the last K used bytes not stored.
+
+#![tactic(auto)]
+
 ghost use Rattle.std.specs.Prelude.{◌≡◌, ◌+◌, ◌≤◌, length};
 ghost use Rattle.rules.specs.Trace.{trace_capacity};
 
@@ -13,7 +16,7 @@ const MEMORY: usize = 4096;
 const NOTHING: usize = MEMORY + 1;
 
 // The table, and how much of the memory is the log.
-#[derive(Drop)]
+#[derive(Clone, Copy)]
 struct Story {
     table: Table,
     capacity: usize,
