@@ -1,0 +1,25 @@
+-- The numbers that are passed ascend to the last, so that the entries that are left, from that number on, say what all say.
+use Prim.Native.Nat.{◌-◌}
+use mathlib.Core.Path.{refl}
+use borrow.Author.Rules.{rules}
+use Rattle.lists.proofs.Loops.{Ahead, ahead_next, ahead_stop, ahead_done}
+use Rattle.rules.specs.Restart.{ascend_from}
+use Rattle.log_reader.specs.Reading.{entries_at}
+use Rattle.entries.proofs.Rows.{entry_next, entries_over}
+use Rattle.entries.proofs.numbers_ascend.Goals as goal
+
+pub loop-j-init : goal.loop-j-init
+unfolding ascend_from
+loop-j-init c = record { same = refl }
+
+pub loop-j-preserved : goal.loop-j-preserved
+unfolding ascend_from
+loop-j-preserved c = ahead_next c.loop-j.invariant (entry_next _ _ _ c.entries_count-n.ensures c.loop-j-test.true) (rw (← c.number_at-number.ensures, c.if-above.true-raw))
+
+pub returns-else-above : goal.returns-else-above
+unfolding ascend_from
+returns-else-above c = ahead_stop c.loop-j.invariant (entry_next _ _ _ c.entries_count-n.ensures c.loop-j-test.true) (rw (← c.number_at-number.ensures, c.if-above.false-raw))
+
+pub returns : goal.returns
+unfolding ascend_from
+returns c = ahead_done c.loop-j.invariant (entries_over _ _ _ c.entries_count-n.ensures c.loop-j-test.false) refl

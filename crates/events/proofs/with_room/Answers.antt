@@ -1,0 +1,6 @@
+-- The other open ones are all but itself.
+use borrow.Author.Rules.{rules}
+use Rattle.events.proofs.with_room.Goals as goal
+
+pub returns : goal.returns
+returns c = rw (← c.is_open-own.ensures, ← c.less-others.ensures)

@@ -1,0 +1,19 @@
+-- Each turn changes the enlistment of one place if it is held, so that what is left to change gives the change of all.
+use Prim.Native.Nat.{◌-◌}
+use borrow.Author.Rules.{rules}
+use Rattle.lists.proofs.Loops.{long, pass_start, pass_done}
+use Rattle.passes.specs.Change.{change_of}
+use Rattle.holdings.proofs.Passed.{part_held, PassedHeld, pass_held, pass_other}
+use Rattle.holdings.proofs.change.Goals as goal
+
+pub loop-i-init : goal.loop-i-init
+loop-i-init c = pass_start part_held (search long)
+
+pub loop-i-preserved-then-mine : goal.loop-i-preserved-then-mine
+loop-i-preserved-then-mine c = pass_held _ _ _ c.loop-i.invariant c.loop-i-test.true c.if-mine.true-raw c.changed-f.ensures
+
+pub loop-i-preserved : goal.loop-i-preserved
+loop-i-preserved c = pass_other _ _ _ c.loop-i.invariant c.loop-i-test.true c.if-mine.false-raw
+
+pub returns : goal.returns
+returns c = pass_done part_held c.loop-i.invariant c.loop-i-test.false

@@ -1,0 +1,13 @@
+-- The two go along together: what sameBytes says of what is left, it says of the whole.
+use Prim.Native.Nat.{◌-◌}
+use mathlib.Core.Path.{refl}
+use borrow.Author.Rules.{rules}
+use Rattle.lists.proofs.Loops.{Paired, pair_start, pair_next, pair_stop, pair_done}
+use Rattle.rules.specs.Identifiers.{same_bytes}
+use Rattle.identifiers.proofs.same.Given as goal
+
+abbrev pub invariant-loop-i : goal.invariant-loop-i
+invariant-loop-i l = Paired same_bytes 16 l.a l.b l.i
+
+abbrev pub decreases-loop-i : goal.decreases-loop-i
+decreases-loop-i l = 16 - l.i

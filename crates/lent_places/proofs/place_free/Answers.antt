@@ -1,0 +1,27 @@
+-- The places in front of the one that is looked at have failed the test, so that the first that passes it is the definition's.
+use Prim.Native.Nat.{◌-◌}
+use mathlib.Core.Path.{refl, ◌∙◌}
+use mathlib.Core.List.{map}
+use lib.ListN.{length-map}
+use borrow.Author.Rules.{rules}
+use Rattle.lists.proofs.Loops.{Sought, look_start, seek_miss, seek_hit, seek_done}
+use Rattle.rules.specs.Table.{is_free}
+use Rattle.rows.specs.Memory.{transaction_in}
+use Rattle.rows.proofs.Mapped.{seen}
+use Rattle.lent_places.proofs.place_free.Goals as goal
+
+pub loop-i-init : goal.loop-i-init
+unfolding transaction_in
+loop-i-init c = look_start (length-map c.args.heads.now transaction_in ∙ c.requires)
+
+pub returns-then-hit : goal.returns-then-hit
+unfolding transaction_in
+returns-then-hit c = seek_hit _ _ c.loop-i.invariant c.loop-i-test.true (seen is_free transaction_in c.args.heads.now c.loop-i.i _ (refl)) c.if-hit.true-raw
+
+pub loop-i-preserved : goal.loop-i-preserved
+unfolding transaction_in
+loop-i-preserved c = seek_miss _ _ c.loop-i.invariant c.loop-i-test.true (seen is_free transaction_in c.args.heads.now c.loop-i.i _ (refl)) c.if-hit.false-raw
+
+pub returns : goal.returns
+unfolding transaction_in
+returns c = seek_done _ c.loop-i.invariant c.loop-i-test.false

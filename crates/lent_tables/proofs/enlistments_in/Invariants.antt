@@ -1,0 +1,14 @@
+-- Each is read from its own place.
+use Prim.Native.Nat.{◌-◌}
+use mathlib.Core.Path.{refl}
+use mathlib.Core.List.{[], map}
+use borrow.Author.Rules.{rules}
+use Rattle.lists.proofs.Loops.{Filled, fill_start, fill_map, fill_done}
+use Rattle.rows.specs.Memory.{enlistment_in}
+use Rattle.lent_tables.proofs.enlistments_in.Given as goal
+
+abbrev pub invariant-loop-i : goal.invariant-loop-i
+invariant-loop-i l = Filled (λ k. map enlistment_in) 128 l.rows l.enlistments l.i
+
+abbrev pub decreases-loop-i : goal.decreases-loop-i
+decreases-loop-i l = 128 - l.i

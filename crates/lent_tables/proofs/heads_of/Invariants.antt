@@ -1,0 +1,13 @@
+-- Each is stored in its own place.
+use Prim.Native.Nat.{◌-◌}
+use borrow.Author.Rules.{rules}
+use Rattle.lists.proofs.Loops.{long}
+use Rattle.rows.specs.Memory.{transaction_in}
+use Rattle.rows.proofs.Mapped.{Written, write_start, write_again, write_done}
+use Rattle.lent_tables.proofs.heads_of.Given as goal
+
+abbrev pub invariant-loop-i : goal.invariant-loop-i
+invariant-loop-i l = Written transaction_in 32 l.transactions l.heads l.i
+
+abbrev pub decreases-loop-i : goal.decreases-loop-i
+decreases-loop-i l = 32 - l.i

@@ -1,0 +1,6 @@
+-- Its lists are read one after the other.
+use borrow.Author.Rules.{rules}
+use Rattle.lent_tables.proofs.table_in.Goals as goal
+
+pub returns : goal.returns
+returns c = rw (← c.transactions_in-transactions.ensures, ← c.enlistments_in-enlistments.ensures)

@@ -1,0 +1,14 @@
+-- Each is read from its own place.
+use Prim.Native.Nat.{◌-◌}
+use mathlib.Core.Path.{refl}
+use mathlib.Core.List.{[], map}
+use borrow.Author.Rules.{rules}
+use Rattle.lists.proofs.Loops.{Filled, fill_start, fill_map, fill_done}
+use Rattle.rows.specs.Memory.{transaction_in}
+use Rattle.lent_tables.proofs.transactions_in.Given as goal
+
+abbrev pub invariant-loop-i : goal.invariant-loop-i
+invariant-loop-i l = Filled (λ k. map transaction_in) 32 l.heads l.transactions l.i
+
+abbrev pub decreases-loop-i : goal.decreases-loop-i
+decreases-loop-i l = 32 - l.i

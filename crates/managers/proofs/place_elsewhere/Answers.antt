@@ -1,0 +1,21 @@
+-- The places are tested in their order: as long as none was met that passes, the first place is among those that are left.
+use Prim.Native.Nat.{◌-◌}
+use borrow.Author.Rules.{rules}
+use Rattle.lists.proofs.Loops.{long, Sought, look_start, seek_miss, seek_hit, seek_done}
+use mathlib.Core.Bool.{not, ◌&&◌}
+use Rattle.rules.specs.EnlistmentState.{failed_to_notify}
+use Rattle.rules.specs.Table.{is_in}
+use Rattle.rules.specs.Events.{is_undone}
+use Rattle.managers.proofs.place_elsewhere.Goals as goal
+
+pub loop-i-init : goal.loop-i-init
+loop-i-init c = look_start (search long)
+
+pub returns-then-hit : goal.returns-then-hit
+returns-then-hit c = seek_hit _ _ c.loop-i.invariant c.loop-i-test.true c.is_elsewhere-hit.ensures c.if-hit.true
+
+pub loop-i-preserved : goal.loop-i-preserved
+loop-i-preserved c = seek_miss _ _ c.loop-i.invariant c.loop-i-test.true c.is_elsewhere-hit.ensures c.if-hit.false
+
+pub returns : goal.returns
+returns c = seek_done _ c.loop-i.invariant c.loop-i-test.false

@@ -1,0 +1,6 @@
+-- `both` joins the answer of `is_writable` and the test of the length as the definition does.
+use borrow.Author.Rules.{rules}
+use Rattle.message_tests.proofs.fits.Goals as goal
+
+pub returns : goal.returns
+returns c = rw (c.both.ensures, c.is_writable.ensures)

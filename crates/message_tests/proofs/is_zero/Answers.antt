@@ -1,0 +1,6 @@
+-- The definition compares with 16 zeros too.
+use borrow.Author.Rules.{rules}
+use Rattle.message_tests.proofs.is_zero.Goals as goal
+
+pub returns : goal.returns
+returns c = c.same.ensures

@@ -1,0 +1,6 @@
+-- Both arrays repeat one place, and that one is empty.
+use borrow.Author.Rules.{rules}
+use Rattle.places.proofs.empty.Goals as goal
+
+pub returns : goal.returns
+returns c = simp (← c.no_transaction-x.ensures, ← c.no_enlistment-e.ensures)

@@ -1,0 +1,19 @@
+-- The entries of a record go behind those before them, so that the records that are left, from that place on, give the whole.
+use Prim.Native.Nat.{◌-◌}
+use native.Mathlib.Omega.{arith}
+use mathlib.Core.Path.{sym, ◌∙◌}
+use borrow.Author.Rules.{rules}
+use Rattle.open_records.specs.Opening.{opens_of}
+use Rattle.entries.proofs.Rows.{entries_long}
+use Rattle.open_records.proofs.Rows.{open_next, opens_over}
+use Rattle.reopening.proofs.Building.{Enlisting, enlisting_start, enlisting_again, enlisting_done}
+use Rattle.reopening.proofs.put_enlistments.Goals as goal
+
+pub loop-i-init : goal.loop-i-init
+loop-i-init c = enlisting_start
+
+pub loop-i-preserved : goal.loop-i-preserved
+loop-i-preserved c = enlisting_again c.loop-i.invariant (omega arith) (open_next _ _ c.count_of-n.ensures.0 _ c.loop-i-test.true) c.put_entries-next.ensures (c.entries_count-more.ensures ∙ sym (entries_long _ _)) (search rules)
+
+pub returns : goal.returns
+returns c = enlisting_done c.loop-i.invariant (opens_over _ _ c.count_of-n.ensures.0 _ c.loop-i-test.false)

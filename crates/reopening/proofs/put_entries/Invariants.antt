@@ -1,0 +1,13 @@
+-- Each entry goes behind the one before it, so that the entries that are left give the whole.
+use Prim.Native.Nat.{◌-◌}
+use borrow.Author.Rules.{rules}
+use Rattle.log_reader.specs.Reading.{entries_at}
+use Rattle.entries.proofs.Rows.{entry_next, entries_over}
+use Rattle.reopening.proofs.Building.{Entering, entering_start, entering_again, entering_done}
+use Rattle.reopening.proofs.put_entries.Given as goal
+
+abbrev pub invariant-loop-j : goal.invariant-loop-j
+invariant-loop-j l = Entering l.p (entries_at l.log l.at) l.k l.initial.u l.u l.j
+
+abbrev pub decreases-loop-j : goal.decreases-loop-j
+decreases-loop-j l = l.n - l.j

@@ -1,0 +1,16 @@
+-- Each record's transaction goes behind the one before it, so that the records that are left give the whole.
+use Prim.Native.Nat.{◌-◌}
+use borrow.Author.Rules.{rules}
+use Rattle.open_records.specs.Opening.{opens_of}
+use Rattle.open_records.proofs.Rows.{open_next, opens_over}
+use Rattle.reopening.proofs.Building.{Naming, naming_start, naming_again, naming_done}
+use Rattle.reopening.proofs.put_transactions.Goals as goal
+
+pub loop-i-init : goal.loop-i-init
+loop-i-init c = naming_start
+
+pub loop-i-preserved : goal.loop-i-preserved
+loop-i-preserved c = naming_again c.loop-i.invariant (open_next _ _ c.count_of-n.ensures.0 _ c.loop-i-test.true) c.transaction_of-x.ensures
+
+pub returns : goal.returns
+returns c = naming_done c.loop-i.invariant (opens_over _ _ c.count_of-n.ensures.0 _ c.loop-i-test.false)

@@ -1,0 +1,6 @@
+-- The identifier is read from the record, and the state is Committing of all.
+use borrow.Author.Rules.{rules}
+use Rattle.reopening.proofs.transaction_of.Goals as goal
+
+pub returns : goal.returns
+returns c = rw c.identifier_at-id.ensures

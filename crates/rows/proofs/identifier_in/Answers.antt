@@ -1,0 +1,8 @@
+-- The bytes are read in their order.
+use borrow.Author.Rules.{rules}
+use Rattle.rows.proofs.Spelling.{spelt, spelt_is}
+use Rattle.rows.proofs.identifier_in.Goals as goal
+
+pub returns : goal.returns
+unfolding spelt
+returns c = spelt_is 16 0 c.args.bytes.now c.requires

@@ -1,0 +1,21 @@
+-- A word is compared with the bytes of each text that the definition names, in its order, so that the branch that is taken is the definition's.
+use borrow.Author.Rules.{rules}
+use Rattle.rules.specs.Trace.{text, three_words}
+use Rattle.trace_commands.proofs.Commands.{told}
+use Rattle.trace_commands.proofs.three_words.Goals as goal
+
+pub returns-then-is_word : goal.returns-then-is_word
+unfolding three_words text
+returns-then-is_word c = rw (told c.is_word.ensures c.if-is_word.true) c.vote_line.ensures
+
+pub returns-then-is_word-2 : goal.returns-then-is_word-2
+unfolding three_words text
+returns-then-is_word-2 c = rw (told c.is_word.ensures c.if-is_word.false, told c.is_word-2.ensures c.if-is_word-2.true) c.reply_line.ensures
+
+pub returns-then-is_word-3 : goal.returns-then-is_word-3
+unfolding three_words text
+returns-then-is_word-3 c = rw (told c.is_word.ensures c.if-is_word.false, told c.is_word-2.ensures c.if-is_word-2.false, told c.is_word-3.ensures c.if-is_word-3.true) c.ask_line.ensures
+
+pub returns : goal.returns
+unfolding three_words text
+returns c = rw (told c.is_word.ensures c.if-is_word.false, told c.is_word-2.ensures c.if-is_word-2.false, told c.is_word-3.ensures c.if-is_word-3.false) c.unreadable.ensures

@@ -1,0 +1,13 @@
+-- The test is the definition's, at the bytes of its text.
+use borrow.Author.Rules.{rules}
+use Rattle.rules.specs.Trace.{text, words_read}
+use Rattle.trace_commands.proofs.Commands.{told}
+use Rattle.trace_enlist.proofs.six_words.Goals as goal
+
+pub returns-then-is_word : goal.returns-then-is_word
+unfolding words_read text
+returns-then-is_word c = rw (told c.is_word.ensures c.if-is_word.true) c.enlist_line_marked.ensures
+
+pub returns-else-is_word : goal.returns-else-is_word
+unfolding words_read text
+returns-else-is_word c = rw (told c.is_word.ensures c.if-is_word.false) c.unreadable.ensures
