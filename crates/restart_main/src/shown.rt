@@ -1,7 +1,8 @@
 // What a restart gave, as a line.
 use crate::logs::Made;
-use libc::STDOUT_FILENO;
 use rules::{Enlistment, Restarted, Row, Table, Transaction};
+
+const STDOUT_FILENO: i32 = 1;
 
 pub fn say(words: &[u8]) {
     io::write_all(STDOUT_FILENO, words);
@@ -143,6 +144,18 @@ fn told(case: u64, r: Restarted, different: u64) {
     say(b"\n");
 }
 
+// As much of it as there is room for.
+fn copy(from: &[u8], to: &mut [u8]) {
+    let mut i: usize = 0;
+    while i < from.len() {
+        if to.len() <= i {
+            return;
+        }
+        to[i] = from[i];
+        i += 1;
+    }
+}
+
 // Behind the words that say which it is.
 pub fn outcome(log: &mut [u8], case: u64, capacity: usize, stored: usize) {
     if log.len() < capacity {
@@ -152,7 +165,7 @@ pub fn outcome(log: &mut [u8], case: u64, capacity: usize, stored: usize) {
         return;
     }
     let mut kept = [0u8; 65537];
-    bytes::copy(log, &mut kept);
+    copy(log, &mut kept);
     let r = restart::restart(&mut log[..capacity], stored);
     let different = changed(&kept, log, capacity);
     told(case, r, different);

@@ -6,9 +6,11 @@
 mod reader;
 mod writer;
 
-use libc::{STDIN_FILENO, STDOUT_FILENO};
 use reader::Row;
 use rules::{Event, Order};
+
+const STDIN_FILENO: i32 = 0;
+const STDOUT_FILENO: i32 = 1;
 
 // No record of these rows holds this byte, so that each byte written is seen.
 const UNWRITTEN: u8 = 0xEE;

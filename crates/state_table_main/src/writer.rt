@@ -1,8 +1,9 @@
 // What came of a step, put into a line piece by piece. Each function gives the place behind what it put; what the line has no room for is dropped.
-use libc::STDOUT_FILENO;
 use rules::sizes::IDENTIFIER;
 use rules::{Enlistment, Signals, Table, Transaction, kinds, marks, sizes};
 use trace_line::OUTPUT;
+
+const STDOUT_FILENO: i32 = 1;
 
 // The byte of an identifier that a row names.
 const LAST: usize = IDENTIFIER - 1;

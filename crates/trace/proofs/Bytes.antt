@@ -10,7 +10,7 @@ use lib.ListN.{length, take, drop, get_or}
 use lib.Seq.{take-suc, take-add, drop-drop}
 use borrow.Author.Tests.{eqb-true}
 use Rattle.lists.proofs.Tests.{by_test}
-use Rattle.bytes.specs.Bytes.{index_of, index_after}
+use Rattle.trace_session.specs.Bytes.{index_of}
 use Rattle.rules.specs.Trace.{traced_of}
 use Rattle.trace_line.specs.Promises.{newline}
 use Rattle.trace.specs.Program.{Stand, answered, with_more, after_bytes, written}
@@ -32,14 +32,14 @@ more_twice : (w : Stand) (b : ℕ) (bs : List ℕ) → with_more (with_more w (b
 more_twice w b bs = λ i. record { table = w.table; log = w.log; line = append_assoc w.line (b ∷ []) bs i; printed = w.printed }
 
 pub after_plain : (w : Stand) (l : List ℕ) → after_bytes w (take (index_of newline l) l) ≡ with_more w (take (index_of newline l) l)
-unfolding after_bytes index_of index_after
+unfolding after_bytes index_of
 after_plain w [] = more_nothing w
 after_plain w (b ∷ bs) = by_test (eqb b newline)
     (λ e. rw e (more_nothing w))
     (λ e. rw (e, e) (after_plain (with_more w (b ∷ [])) bs ∙ more_twice w b (take (index_of newline bs) bs)))
 
 newline_there : (l : List ℕ) → index_of newline l < length l → get_or l (index_of newline l) 0 ≡ newline
-unfolding index_of index_after
+unfolding index_of
 newline_there [] h = absurd (not-suc-le-zero h)
 newline_there (b ∷ bs) h = by_test (eqb b newline)
     (λ e. rw e (eqb-true _ _ e))

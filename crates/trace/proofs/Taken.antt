@@ -9,7 +9,7 @@ use lib.ListN.{length, take, drop, length-drop}
 use lib.Seq.{take-length}
 use Rattle.trace_session.specs.declared.Session.{Session}
 use Rattle.trace_session.specs.declared.Part.{Part}
-use Rattle.bytes.specs.Bytes.{index_of, slice}
+use Rattle.trace_session.specs.Bytes.{index_of, slice}
 use Rattle.trace_line.specs.Promises.{newline}
 use Rattle.trace.specs.Program.{Stand, answered, with_more, after_bytes}
 use Rattle.trace_session.specs.Counts.{Keeps, Parts, line_kept}

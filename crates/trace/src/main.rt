@@ -6,9 +6,11 @@ ghost use Rattle.std.specs.Prelude.{◌≡◌, ◌≤◌, length};
 ghost use Rattle.rules.specs.Sizes.{transaction_places, enlistment_places};
 ghost use Rattle.trace.specs.Sessions.{Fits, Ready, Answers, Takes, Writes, TakesAll, Finishes, Starts};
 
-use libc::{STDIN_FILENO, STDOUT_FILENO};
+use std::io::{Read, Stdin};
 use trace_line::OUTPUT;
 use trace_session::{KEPT, ROOM, Session};
+
+const STDOUT_FILENO: i32 = 1;
 
 const CAPACITY: usize = 4096;
 
@@ -173,7 +175,18 @@ fn started(heads: &mut [[u8; 17]; 32], rows: &mut [[u8; 24]; 128], log: &mut [u8
     }
 }
 
-fn main() {
+// How many bytes came; none at the end of the input, and where it can't be read.
+fn next_block(input: &mut Stdin, block: &mut [u8]) -> usize
+    ensures { result ≤ length block.new }
+{
+    match input.read(block) {
+        Ok(n) => n,
+        Err(_) => 0,
+    }
+}
+
+fn main(rt: HostRuntime) {
+    let mut input = rt.stdin();
     let mut heads = [[0u8; 17]; 32];
     let mut rows = [[0u8; 24]; 128];
     let mut log = [0u8; CAPACITY];
@@ -184,8 +197,7 @@ fn main() {
     while 0 < turns {
         turns -= 1;
         let mut block = io::large_buffer();
-        let got = libc::read(STDIN_FILENO, &mut block);
-        let n = io::count(got, &block);
+        let n = next_block(&mut input, &mut block);
         if n == 0 {
             let last = finish(s, &mut heads, &mut rows, &mut log, &line, &mut output);
             flush(last, &output);

@@ -1,6 +1,6 @@
 -- How much of a line and of the output is kept, and what becomes of the counts.
 use Rattle.std.specs.Prelude.{ℕ, ◌+◌, ◌-◌, ◌≤◌, ◌≡◌, Bool, cond, List, ltb, length, take}
-use Rattle.bytes.specs.Bytes.{index_of, slice}
+use Rattle.trace_session.specs.Bytes.{index_of, slice}
 use Rattle.trace_parts.specs.Puts.{Puts}
 use Rattle.trace_line.specs.Promises.{newline}
 use Rattle.trace_session.specs.declared.Session.{Session}

@@ -4,6 +4,7 @@
 
 ghost use Rattle.std.specs.Prelude.{◌≡◌, ◌+◌, ◌≤◌, min, leb, length};
 ghost use Rattle.trace_parts.specs.Puts.{output_most};
+ghost use Rattle.trace_session.specs.Bytes.{index_of, slice};
 ghost use Rattle.trace_session.specs.Counts.{line_kept, room, Keeps, Parts, flushed_of};
 
 use rules::sizes;
@@ -53,12 +54,28 @@ pub fn keep(line: &mut [u8], kept: usize, more: &[u8]) -> usize
     trace_parts::put_text(line, kept, &more[..n])
 }
 
+// Where the byte first stands in that part of the block, and the part's end if it doesn't stand there.
+pub fn find(block: &[u8], from: usize, to: usize, byte: u8) -> usize
+    requires { (from ≤ to) × (to ≤ length block.now) }
+    ensures { (result ≡ from + index_of byte (slice from to block.now)) × (result ≤ to) }
+{
+    let mut i = from;
+    while i < to {
+        let here = block[i] == byte;
+        if here {
+            return i;
+        }
+        i += 1;
+    }
+    to
+}
+
 // What is left of the block, up to the first end of a line in it.
 pub fn part_of(block: &[u8], from: usize) -> Part
     requires { from ≤ length block.now }
     ensures { Parts block.now from result }
 {
-    let end = bytes::scan::find(block, from, block.len(), NEWLINE);
+    let end = find(block, from, block.len(), NEWLINE);
     if end < block.len() {
         Part {
             end,

@@ -6,9 +6,14 @@
 ghost use Rattle.std.specs.Prelude.{◌≡◌, ◌+◌, ◌≤◌, length};
 ghost use Rattle.rules.specs.Trace.{trace_capacity};
 
-use libc::STDOUT_FILENO;
 use rules::{Name, Signal, Signals, Table, sizes};
+use std::{env, fs};
 use trace_line::OUTPUT;
+
+const STDOUT_FILENO: i32 = 1;
+
+// As much of a story is read.
+const LARGEST: usize = 65536;
 
 const MEMORY: usize = 4096;
 
@@ -152,39 +157,31 @@ fn run(text: &[u8]) {
     };
     let mut at: usize = 0;
     while at < text.len() {
-        let end = bytes::scan::find(text, at, text.len(), b'\n');
+        let end = trace_session::find(text, at, text.len(), b'\n');
         let next = told(s, &text[at..end], &mut memory);
         s = next;
         at = end + 1;
     }
 }
 
-fn run_file(name: &[u8]) {
-    let file = os::open_read(name);
-    if file < 0 {
-        os::fail(name);
-        return;
-    }
-    let mut text = io::large_buffer();
-    let n = io::read_full(file, &mut text);
-    libc::close(file);
+fn run_file(rt: &HostRuntime, name: &str) -> std::io::Result<()> {
+    let text = fs::read(rt, name)?;
+    let bytes = text.as_slice();
+    let size = if bytes.len() < LARGEST {
+        bytes.len()
+    } else {
+        LARGEST
+    };
     io::write_all(STDOUT_FILENO, b"# ");
-    io::write_all(STDOUT_FILENO, name);
+    io::write_all(STDOUT_FILENO, name.as_bytes());
     io::write_all(STDOUT_FILENO, b"\n");
-    run(&text[..n]);
+    run(&bytes[..size]);
+    Ok(())
 }
 
-fn run_argument(i: usize) {
-    let mut name = io::buffer();
-    let n = os::arg(i, &mut name);
-    run_file(&name[..n]);
-}
-
-fn main() {
-    let count = os::arg_count();
-    let mut i: usize = 1;
-    while i < count {
-        run_argument(i);
-        i += 1;
+fn main(rt: HostRuntime) -> std::io::Result<()> {
+    for name in env::args(&rt)?.skip(1) {
+        run_file(&rt, name.as_str())?;
     }
+    Ok(())
 }

@@ -16,10 +16,8 @@ use Rattle.passes.specs.Census.{more_of}
 use Rattle.passes.proofs.Laws.{places_more, places_below}
 use Rattle.rows.specs.Memory.{transaction_in, enlistment_in}
 use Rattle.rows.proofs.Mapped.{seen}
+use Rattle.lent_counts.proofs.open_count.Invariants.{opens}
 use Rattle.lent_counts.proofs.open_count.Goals as goal
-
-abbrev opens : List (List ℕ) → ℕ → Transaction → Bool
-opens rows p x = is_open x.state (filter (held_by p) (map enlistment_in rows))
 
 pub loop-i-init : goal.loop-i-init
 unfolding open_places places_from held transaction_in

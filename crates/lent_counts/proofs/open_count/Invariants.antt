@@ -18,6 +18,9 @@ use Rattle.rows.specs.Memory.{transaction_in, enlistment_in}
 use Rattle.rows.proofs.Mapped.{seen}
 use Rattle.lent_counts.proofs.open_count.Given as goal
 
+abbrev pub opens : List (List ℕ) → ℕ → Transaction → Bool
+opens rows p x = is_open x.state (filter (held_by p) (map enlistment_in rows))
+
 abbrev pub invariant-loop-i : goal.invariant-loop-i
 invariant-loop-i l = Gathered (λ k xs. length (places_from (opens l.rows) (suc k) xs)) 32 (map transaction_in l.heads) l.n l.i
 

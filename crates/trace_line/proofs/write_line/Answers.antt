@@ -1,34 +1,20 @@
 -- The parts behind one another are the line, and each ends before the buffer does: 17 bytes at most for the three numbers, and 28 for each signal.
-use Prim.Native.Nat.{◌≤◌, ◌<◌}
+use Prim.Native.Nat.{ℕ, ◌+◌, ◌≤◌}
 use native.Mathlib.Omega.{arith}
 use borrow.Author.Rules.{rules}
 use Rattle.lists.proofs.Loops.{long}
 use mathlib.Core.Path.{◌≡◌}
 use lib.ListN.{length}
 use Rattle.rules.specs.Sizes.{signals_most}
+use Rattle.rules.specs.Trace.{digits}
 use Rattle.trace_parts.specs.Puts.{digits_most, output_most}
 use Rattle.trace_parts.proofs.Digits.{few_digits, most_digits}
 use Rattle.trace_line.proofs.Lines.{taken_most, line_written}
 use Rattle.trace_line.proofs.write_line.Goals as goal
 
-items_long : (c : tie.Start) → length c.args.signals.items ≡ signals_most
-items_long c = search long
-
--- the first three numbers and the spaces between them take at most 17 bytes
-headed : (c : tie.After-put-number3) → c.put-number3.result ≤ 17
-headed c =
-    let s = c.before.before.before.before.before.before.before in
-    let a = s.before.args in
-    let n : s.signal_count.result ≤ signals_most = omega arith in
-    omega (arith, few_digits digits_most 2 a.refusal (omega arith), most_digits digits_most a.used, few_digits digits_most 1 s.signal_count.result (omega arith))
-
--- one byte is left for the newline
-ended : (c : tie.After-put-signals) → c.put_signals.result < output_most
-ended c =
-    let b = c.before.before in
-    let s = b.before.before.before.before.before.before.before in
-    let n : s.signal_count.result ≤ signals_most = omega arith in
-    omega (arith, headed b, taken_most s.signal_count.result s.before.args.signals.items)
+-- the first three numbers take at most 15 bytes, and the spaces between them 2
+headed : (used count : ℕ) {first : ℕ} → first ≤ 3 → count ≤ signals_most → first + length (digits digits_most used) + length (digits digits_most count) ≤ 15
+headed used count h n = omega (arith, most_digits digits_most used, few_digits digits_most 1 count (omega arith))
 
 pub bounds-buffer-first : goal.bounds-buffer-first
 bounds-buffer-first c = omega (arith, few_digits digits_most 2 c.args.refusal (omega arith))
@@ -51,15 +37,19 @@ put_number-third-requires c = omega (arith, few_digits digits_most 2 c.args.refu
 pub put_signals-end-requires : goal.put_signals-end-requires
 put_signals-end-requires c =
     let n : c.signal_count-count.result ≤ signals_most = omega arith in
-    (n, omega (arith, headed c.before))
+    (n, omega (arith, headed c.args.used c.signal_count-count.result (few_digits digits_most 2 c.args.refusal (omega arith)) n))
 
 pub bounds-buffer-end : goal.bounds-buffer-end
-bounds-buffer-end c = ended c
+bounds-buffer-end c =
+    let n : c.signal_count-count.result ≤ signals_most = omega arith in
+    omega (arith, headed c.args.used c.signal_count-count.result (few_digits digits_most 2 c.args.refusal (omega arith)) n, taken_most c.signal_count-count.result c.args.signals.items)
 
 pub overflow_add-result : goal.overflow_add-result
-overflow_add-result c = omega (arith, ended c)
+overflow_add-result c =
+    let n : c.signal_count-count.result ≤ signals_most = omega arith in
+    omega (arith, headed c.args.used c.signal_count-count.result (few_digits digits_most 2 c.args.refusal (omega arith)) n, taken_most c.signal_count-count.result c.args.signals.items)
 
 pub returns : goal.returns
 returns c =
-    line_written c.args.signals (items_long s.before) (omega arith) c.signal_count-count.ensures
+    line_written c.args.signals (search long) (omega arith) c.signal_count-count.ensures
     c.put_number-first.ensures c.put_number-second.ensures c.put_number-third.ensures c.put_signals-end.ensures
