@@ -1,4 +1,3 @@
 pub mod Laws
-pub mod Walk
 pub mod Front
 pub mod Determined

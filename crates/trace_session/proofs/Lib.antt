@@ -1,2 +1,3 @@
 pub mod Determined
+pub mod Finding
 pub mod Memory

@@ -45,7 +45,7 @@ put_identifier-requires c =
     omega arith
 
 pub put_identifier-requires-then-manager : goal.put_identifier-requires-then-manager
-put_identifier-requires-then-manager c = omega (arith, c.put_identifier.auto.0, room c.args.payload 32 _ c.requires.1 c.if-manager.true-raw)
+put_identifier-requires-then-manager c = omega (arith, c.put_identifier.auto.memory, room c.args.payload 32 _ c.requires.1 c.if-manager.true-raw)
 
 pub returns-then-manager : goal.returns-then-manager
 returns-then-manager c = two c.args.message c.args.memory.now c.requires.0 c.if-manager.true-raw c.put_identifier.ensures.0 c.put_identifier.ensures.1 c.put_identifier-then-manager.ensures.0 c.put_identifier-then-manager.ensures.1

@@ -41,16 +41,16 @@ module _ (m : Message) (l : List ℕ) {n : ℕ} (p : n ≡ payload_of m.kind) {g
 
 pub put_header-requires : goal.put_header-requires
 put_header-requires c =
-    let h = has_room c.args.message c.args.memory.now c.payload_of-payload.ensures.1 c.fits2.ensures c.if-good.true in
+    let h = has_room c.args.message c.args.memory.now c.payload_of-payload.ensures.1 c.fits-good.ensures c.if-good.true in
     omega arith
 
 pub put_payload-requires : goal.put_payload-requires
 put_payload-requires c =
-    let r = has_room c.args.message c.args.memory.now c.payload_of-payload.ensures.1 c.fits2.ensures c.if-good.true in
-    (c.payload_of-payload.ensures.1, omega (arith, c.put_header.auto.0))
+    let r = has_room c.args.message c.args.memory.now c.payload_of-payload.ensures.1 c.fits-good.ensures c.if-good.true in
+    (c.payload_of-payload.ensures.1, omega (arith, c.put_header.auto.memory))
 
 pub returns-then-good : goal.returns-then-good
-returns-then-good c = written c.args.message c.args.memory.now c.payload_of-payload.ensures.1 c.fits2.ensures c.if-good.true c.put_header.ensures c.put_payload.ensures.0 c.put_payload.ensures.1
+returns-then-good c = written c.args.message c.args.memory.now c.payload_of-payload.ensures.1 c.fits-good.ensures c.if-good.true c.put_header.ensures c.put_payload.ensures.0 c.put_payload.ensures.1
 
 pub returns-else-good : goal.returns-else-good
-returns-else-good c = refused c.args.message c.args.memory.now c.payload_of-payload.ensures.1 c.fits2.ensures c.if-good.false
+returns-else-good c = refused c.args.message c.args.memory.now c.payload_of-payload.ensures.1 c.fits-good.ensures c.if-good.false

@@ -10,16 +10,16 @@ pub returns-then-outside : goal.returns-then-outside
 returns-then-outside c = rw (outside_is c.args.log.now c.args.stored (sym c.is_outside-outside.ensures ∙ c.if-outside.true)) (c.refused.ensures, refl)
 
 pub overflow_cast-log : goal.overflow_cast-log
-overflow_cast-log c = let i = inside c.args.log.now c.args.stored (sym c.is_outside-outside.ensures ∙ c.if-outside.false) in omega (arith, c.write_header.auto.0)
+overflow_cast-log c = let i = inside c.args.log.now c.args.stored (sym c.is_outside-outside.ensures ∙ c.if-outside.false) in omega (arith, c.write_header.auto.log)
 
 pub shape_of-log-then-begins : goal.shape_of-log-then-begins
-shape_of-log-then-begins c = c.write_header.auto.0
+shape_of-log-then-begins c = c.write_header.auto.log
 
 pub returns-then-begins : goal.returns-then-begins
 returns-then-begins c =
     let i = inside c.args.log.now c.args.stored (sym c.is_outside-outside.ensures ∙ c.if-outside.false) in
     rw (begun_is c.args.log.now c.args.stored (sym c.is_outside-outside.ensures ∙ c.if-outside.false) c.if-stored-lt-HEADER.true (sym c.begins_header-begins.ensures ∙ c.if-begins.true))
-    (rw (c.fresh-table.ensures, c.write_header.auto.0) at c.done.ensures, c.write_header.ensures ∙ header_written _ i.least)
+    (rw (c.fresh-table.ensures, c.write_header.auto.log) at c.done.ensures, c.write_header.ensures ∙ header_written _ i.least)
 
 pub returns-then-stored-lt-HEADER : goal.returns-then-stored-lt-HEADER
 returns-then-stored-lt-HEADER c = rw (not_begun_is c.args.log.now c.args.stored (sym c.is_outside-outside.ensures ∙ c.if-outside.false) c.if-stored-lt-HEADER.true (sym c.begins_header-begins.ensures ∙ c.if-begins.false)) (c.refused-then-stored-lt-HEADER.ensures, refl)

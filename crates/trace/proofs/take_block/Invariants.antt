@@ -1,0 +1,14 @@
+-- Each turn takes some of the block and writes what it printed, so that the next turn has room.
+use Prim.Native.Nat.{◌-◌}
+use native.Mathlib.Omega.{arith}
+use mathlib.Core.Path.{refl, sym, ◌∙◌}
+use lib.ListN.{length}
+use borrow.Author.Rules.{rules}
+use Rattle.trace.proofs.Turns.{Running, running_start, running_again, running_done, running_failed}
+use Rattle.trace.proofs.take_block.Given as goal
+
+abbrev pub invariant-loop-s : goal.invariant-loop-s
+invariant-loop-s l = Running l.initial.heads l.initial.rows l.block l.initial.log l.initial.line l.initial.output l.initial.s l.heads l.rows l.log l.line l.output l.s
+
+abbrev pub decreases-loop-s : goal.decreases-loop-s
+decreases-loop-s l = length l.block - l.s.taken

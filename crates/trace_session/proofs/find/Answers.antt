@@ -1,0 +1,23 @@
+-- The byte is found here, or one byte further on than what is left begins; and there is none in a part that has ended.
+use Prim.Native.Nat.{◌≤◌}
+use native.Mathlib.Omega.{arith}
+use mathlib.Core.Path.{◌≡◌, refl, sym, ap, ◌∙◌}
+use Rattle.trace_session.specs.Bytes.{index_of, slice}
+use Rattle.trace_session.proofs.Finding.{index_here, index_on, index_over}
+use Rattle.trace_session.proofs.find.Goals as goal
+
+pub returns-then-here : goal.returns-then-here
+returns-then-here c =
+    let z = index_here c.args.byte c.args.to c.args.block.now c.requires.1 c.loop-i.i c.loop-i-test.true c.if-here.true in
+    (omega (arith, z, c.loop-i.invariant.same), c.loop-i.invariant.within)
+
+pub loop-i-preserved : goal.loop-i-preserved
+loop-i-preserved c =
+    let z = index_on c.args.byte c.args.to c.args.block.now c.requires.1 c.loop-i.i c.loop-i-test.true c.if-here.false in
+    record { above = omega arith; within = omega arith; same = omega (arith, z, c.loop-i.invariant.same) }
+
+pub returns : goal.returns
+returns c =
+    let e : c.loop-i.i ≡ c.args.to = omega arith in
+    let z = index_over c.args.byte c.args.to c.args.block.now c.requires.1 in
+    (omega (arith, rw e at c.loop-i.invariant.same, z), omega arith)
