@@ -9,7 +9,7 @@ use lib.Dec.{eqb}
 use borrow.Author.Tests.{ne_eqb}
 use Rattle.lists.specs.Lists.{filter}
 use Rattle.lists.specs.Members.{◌∈◌, Each}
-use Rattle.lists.specs.Places.{at, change_from, change_at}
+use Rattle.lists.specs.Places.{change_from, change_at}
 use Rattle.lists.proofs.Tests.{by_test, each_nothing, each_more, count_filter}
 use Rattle.lists.proofs.Places.{length_change}
 use Rattle.lists.proofs.Loops.{change_there}

@@ -27,7 +27,7 @@ use Rattle.rules.specs.TransactionState as transaction
 use Rattle.rules.specs.EnlistmentState as enlistment
 use Rattle.rules.specs.Identifiers.{Id}
 use Rattle.rules.specs.Table.{no_transaction, is_free, is_vacant, is_named, is_numbered, is_durable_of, durable_kind, place_named, transaction_at, state_at, held, with_transactions, with_enlistments}
-use Rattle.rules.specs.Sound.{is_open, In, PhaseZero, Volatile, Durable, HoldsWell, Live, Held, Identifier, Number, Sound, Known}
+use Rattle.rules.specs.Sound.{is_open, In, PhaseZero, Durable, HoldsWell, Live, Held, Identifier, Number, Sound, Known}
 use Rattle.rules.specs.Events.{begin_of, kind_of, new_enlistment, enlist_of}
 use Rattle.rules.proofs.Frames.{of_held, in_held, named_is, named_found}
 use Rattle.rules.proofs.Identifiers.{equal_same}

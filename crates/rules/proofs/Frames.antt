@@ -1,6 +1,6 @@
 -- What the verbs of a table leave alone: a change at the place p is none at any other place, and of a name that does not stand at p
 -- nothing is seen. Each law looks place by place.
-use Prim.Native.Nat.{ℕ, ◌+◌, ◌-◌, ◌≤◌}
+use Prim.Native.Nat.{ℕ, ◌+◌, ◌≤◌}
 use native.Mathlib.Omega.{arith}
 use mathlib.Core.Path.{◌≡◌, refl, sym, ◌∙◌, ap}
 use mathlib.Core.Logic.{◌⊎◌, inl, inr}

@@ -20,7 +20,7 @@ use Rattle.rules.specs.EnlistmentState as enlistment
 use Rattle.rules.specs.Table.{no_transaction, is_in, is_done, held, transaction_at, state_at, id_at, in_transaction_state, freed, ended, change_held, go_to, emptied, use_more, is_durable}
 use Rattle.rules.specs.Sound.{is_open, open_count, In, HoldsWell, Live, Sound}
 use Rattle.rules.specs.Log.{Record, record_bytes}
-use Rattle.rules.specs.Events.{append, end_of, end_if_done, hears_abort, aborted_of, abort_of, committing, quietly}
+use Rattle.rules.specs.Events.{append, end_of, end_if_done, hears_abort, aborted_of, abort_of, quietly}
 use Rattle.rules.proofs.Records.{forget_size_lem}
 use Rattle.rules.proofs.Frames.{held_transaction, at_own}
 use Rattle.rules.proofs.Kept.{Kept, stays, kept_state, kept_use, live_place, live_some, sound_kept, keeping_either}

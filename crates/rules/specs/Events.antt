@@ -1,5 +1,5 @@
 -- The events: what each does to the table and the log, and which signals it sends. Whether it is refused is said in Refusals.
-use Rattle.std.specs.Prelude.{ℕ, zero, ◌+◌, ◌*◌, ◌-◌, Bool, cond, not, ◌&&◌, ◌||◌, List, [], ◌∷◌, ◌++◌, map, eqb, ltb, leb, length}
+use Rattle.std.specs.Prelude.{ℕ, ◌+◌, ◌*◌, ◌-◌, Bool, cond, not, ◌&&◌, ◌||◌, List, [], ◌∷◌, ◌++◌, map, eqb, ltb, leb, length}
 use Rattle.lists.specs.Lists.{all, any, none, filter, first_or}
 use Rattle.lists.specs.Places.{put_lowest, places_where}
 use Rattle.lists.specs.Sorting.{sort_by}

@@ -22,7 +22,7 @@ use Rattle.rules.specs.TransactionState as transaction
 use Rattle.rules.specs.EnlistmentState as enlistment
 use Rattle.rules.specs.Identifiers.{Id, same_bytes, is_zero}
 use Rattle.rules.specs.Table.{no_transaction, is_named, place_named, transaction_at, state_at, held, is_durable, is_durable_of, is_in, is_done, id_at}
-use Rattle.rules.specs.Sound.{Sound, In, Durable, is_open, committing}
+use Rattle.rules.specs.Sound.{Sound, In, Durable, is_open}
 use Rattle.rules.specs.Events.{done_for, by_identifier, finished, end_each, reenlisted_of}
 use Rattle.rules.proofs.Identifiers.{same_equal}
 use Rattle.rules.proofs.Frames.{named_found, none_absent, named_place, Stands, Absent, stands_place, is_named_lem}

@@ -10,6 +10,7 @@ use reader::Row;
 use rules::{Event, Order};
 
 const STDIN_FILENO: i32 = 0;
+
 const STDOUT_FILENO: i32 = 1;
 
 // No record of these rows holds this byte, so that each byte written is seen.

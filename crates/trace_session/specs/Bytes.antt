@@ -1,5 +1,5 @@
 -- A part of a row of bytes, and where a byte stands in one.
-use Rattle.std.specs.Prelude.{ℕ, suc, cond, Bool, List, [], ◌∷◌, eqb, take, drop}
+use Rattle.std.specs.Prelude.{ℕ, suc, cond, List, [], ◌∷◌, eqb, take, drop}
 
 -- the elements from one index up to, not including, another
 abbrev pub slice : ℕ → ℕ → List ℕ → List ℕ

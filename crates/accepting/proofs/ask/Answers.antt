@@ -1,6 +1,5 @@
 -- The state that is tested is that of its place, and the first two tests together say that it is over, so that the code takes the branch of the definition.
 use mathlib.Core.Path.{refl, ap, ◌∙◌}
-use borrow.Author.Rules.{rules}
 use Rattle.rules.specs.Events.{told_again, ask_of}
 use Rattle.holdings.specs.Holdings.{alone}
 use Rattle.holdings.proofs.Laws.{alone_at, alone_held}

@@ -1,6 +1,5 @@
 -- An ending sends no signal, so that the empty row is the definition's.
 use mathlib.Core.Path.{ap, ◌∙◌}
-use borrow.Author.Rules.{rules}
 use Rattle.rules.specs.Events.{follow}
 use Rattle.rules.proofs.Count.{end_if_done_quiet}
 use Rattle.holdings.specs.Holdings.{alone}

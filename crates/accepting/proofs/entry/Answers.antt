@@ -1,6 +1,5 @@
 -- The code asks what the definition asks, whether phase zero is under way, and in both cases fills in the same fields.
 use mathlib.Core.Path.{sym, ◌∙◌}
-use borrow.Author.Rules.{rules}
 use Rattle.rules.specs.Events.{new_enlistment}
 use Rattle.accepting.proofs.entry.Goals as goal
 

@@ -1,5 +1,4 @@
 -- The definition, too, goes by which follow-up it is, and each case calls what it names there.
-use borrow.Author.Rules.{rules}
 use Rattle.rules.specs.Events.{follow}
 use Rattle.accepting.proofs.Laws.{quiet_gives}
 use Rattle.accepting.proofs.follow.Goals as goal

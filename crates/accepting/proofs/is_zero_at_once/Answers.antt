@@ -1,5 +1,4 @@
 -- Where the kind is not phase zero the conjunction is false, and else it is its second test.
-use borrow.Author.Rules.{rules}
 use Rattle.accepting.proofs.is_zero_at_once.Goals as goal
 
 pub returns-then-phase_zero : goal.returns-then-phase_zero

@@ -2,7 +2,6 @@
 use mathlib.Core.Path.{sym, ap, ◌∙◌}
 use mathlib.Core.Bool.{not}
 use lib.Dec.{eqb}
-use borrow.Author.Rules.{rules}
 use Rattle.lists.proofs.Loops.{any_count}
 use Rattle.rules.specs.Table.{is_phase_zero}
 use Rattle.rules.specs.Events.{follow}

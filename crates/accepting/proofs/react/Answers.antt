@@ -1,5 +1,4 @@
 -- The definition, too, goes by which reaction it is: each case makes the change that it names there, and then follows it up.
-use borrow.Author.Rules.{rules}
 use Rattle.rules.specs.Events.{react}
 use Rattle.accepting.proofs.Laws.{quiet_gives, changed_ready, changed_follows}
 use Rattle.accepting.proofs.react.Goals as goal

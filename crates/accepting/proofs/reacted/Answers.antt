@@ -1,5 +1,4 @@
 -- The reaction that is looked up is that of the definition, so that what it does is what the definition does.
-use borrow.Author.Rules.{rules}
 use Rattle.accepting.proofs.reacted.Goals as goal
 
 pub returns : goal.returns

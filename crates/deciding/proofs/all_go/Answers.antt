@@ -1,7 +1,6 @@
 -- All are those that pass a test that each passes.
 use mathlib.Core.Path.{refl, ap, ◌∙◌}
 use mathlib.Core.Bool.{true}
-use borrow.Author.Rules.{rules}
 use Rattle.lists.proofs.Tests.{filter_all}
 use Rattle.rules.specs.Table.{held}
 use Rattle.rules.specs.Signals.{to_each, row_of}

@@ -1,7 +1,6 @@
 -- The signals and the entries are read off the holding before it changes, and the record is put behind what is used of the log, as in the definition.
 use native.Mathlib.Omega.{arith}
 use mathlib.Core.Path.{sym, ap}
-use borrow.Author.Rules.{rules}
 use Rattle.holdings.proofs.Laws.{alone_at}
 use Rattle.deciding.proofs.Laws.{commit_done}
 use Rattle.deciding.proofs.commit_logged.Goals as goal

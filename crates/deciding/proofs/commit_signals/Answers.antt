@@ -1,5 +1,4 @@
 -- The definition speaks to those that are prepared and then to the application, which is what the call is asked for.
-use borrow.Author.Rules.{rules}
 use Rattle.rules.specs.Events.{commit_signals}
 use Rattle.deciding.proofs.commit_signals.Goals as goal
 

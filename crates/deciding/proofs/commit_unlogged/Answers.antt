@@ -1,5 +1,4 @@
 -- The signals are read off the holding before it changes, and nothing is written, so that any log stays.
-use borrow.Author.Rules.{rules}
 use Rattle.endings.proofs.Laws.{going_gives}
 use Rattle.deciding.proofs.commit_unlogged.Goals as goal
 

@@ -1,7 +1,6 @@
 -- A count is 0 if and only if none is such, so that the code takes the branch of the definition, in its order.
 use mathlib.Core.Path.{sym, ap, ◌∙◌}
 use lib.Dec.{eqb}
-use borrow.Author.Rules.{rules}
 use Rattle.lists.proofs.Loops.{any_count}
 use Rattle.lists.proofs.Tests.{count_filter}
 use Rattle.rules.specs.Table.{held, is_durable}

@@ -2,7 +2,6 @@
 use mathlib.Core.Path.{sym, ap, ◌∙◌}
 use mathlib.Core.Bool.{◌&&◌}
 use lib.Dec.{eqb}
-use borrow.Author.Rules.{rules}
 use Rattle.lists.proofs.Loops.{all_count}
 use Rattle.rules.specs.Table.{is_marked}
 use Rattle.rules.specs.Events.{end_committed, start_phase_one}

@@ -1,5 +1,4 @@
 -- `dispenser::dispenser_after` meets its contract, by those of the two functions that it calls.
-use borrow.Author.Rules.{rules}
 use Rattle.rules.specs.Dispenser.{dispenser_of}
 use Rattle.dispenser.proofs.dispenser_after.Goals as goal
 

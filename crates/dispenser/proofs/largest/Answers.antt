@@ -1,9 +1,8 @@
 -- `dispenser::largest` meets its contract: the loop goes from the last place to the first, and holds the largest number of those behind it.
 use mathlib.Core.Path.{refl}
 use mathlib.Core.Bool.{cond}
-use borrow.Author.Rules.{rules}
 use lib.Dec.{ltb}
-use Rattle.lists.proofs.Loops.{long, Gathered, gather_start, gather_again, gather_done}
+use Rattle.lists.proofs.Loops.{long, gather_start, gather_again, gather_done}
 use Rattle.rules.specs.Dispenser.{largest_in}
 use Rattle.dispenser.proofs.largest.Goals as goal
 

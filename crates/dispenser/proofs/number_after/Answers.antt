@@ -1,5 +1,4 @@
 -- Behind the largest number there is none, which is 0 in the definition as well; below it one more does not wrap.
-use borrow.Author.Rules.{rules}
 use borrow.Author.Tests.{le-leb, lt-leb}
 use Rattle.dispenser.proofs.number_after.Goals as goal
 

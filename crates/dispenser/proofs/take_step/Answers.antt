@@ -1,5 +1,4 @@
 -- `dispenser::take_step` meets its contract: its test is the definition's, and what follows a number is `number_after`'s.
-use borrow.Author.Rules.{rules}
 use Rattle.rules.specs.Dispenser.{taken_of}
 use Rattle.dispenser.proofs.take_step.Goals as goal
 

@@ -1,5 +1,4 @@
 -- Only in One-phase is a reply awaited; it then decides what the application is told.
-use borrow.Author.Rules.{rules}
 use Rattle.each_reaction.proofs.to_reply_in.Goals as goal
 
 pub returns-then-one_phase : goal.returns-then-one_phase

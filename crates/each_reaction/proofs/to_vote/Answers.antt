@@ -1,5 +1,4 @@
 -- Each vote is a case of the definition.
-use borrow.Author.Rules.{rules}
 use Rattle.each_reaction.proofs.to_vote.Goals as goal
 
 pub returns-in-Prepared : goal.returns-in-Prepared

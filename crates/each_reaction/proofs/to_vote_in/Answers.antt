@@ -1,5 +1,4 @@
 -- Only in Preparing is a vote awaited; it then decides.
-use borrow.Author.Rules.{rules}
 use Rattle.each_reaction.proofs.to_vote_in.Goals as goal
 
 pub returns-then-preparing : goal.returns-then-preparing

@@ -1,5 +1,4 @@
 -- Each call gives one test of the definition, and they are joined in its order.
-use borrow.Author.Rules.{rules}
 use Rattle.each_sound.specs.Each.{is_held_well}
 use Rattle.each_sound.proofs.is_held_well.Goals as goal
 

@@ -1,5 +1,4 @@
 -- Three kinds are known and two marks, and the definition asks for one of each.
-use borrow.Author.Rules.{rules}
 use Rattle.each_sound.proofs.is_known.Goals as goal
 
 pub returns : goal.returns

@@ -1,6 +1,5 @@
 -- A free place must be zeros; of another the definition joins the same tests in the same order.
 use mathlib.Core.Path.{sym, ◌∙◌}
-use borrow.Author.Rules.{rules}
 use Rattle.each_sound.proofs.Laws.{chosen}
 use Rattle.each_sound.proofs.is_transaction_sound.Goals as goal
 

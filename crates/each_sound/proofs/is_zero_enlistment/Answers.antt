@@ -1,5 +1,4 @@
 -- A place is zeros where each of its fields is, and of the RM the caller knows it.
-use borrow.Author.Rules.{rules}
 use Rattle.each_sound.proofs.is_zero_enlistment.Goals as goal
 
 pub returns : goal.returns

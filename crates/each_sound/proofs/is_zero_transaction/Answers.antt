@@ -1,5 +1,4 @@
 -- A place is zeros where its state and its identifier are.
-use borrow.Author.Rules.{rules}
 use Rattle.each_sound.proofs.is_zero_transaction.Goals as goal
 
 pub returns : goal.returns

@@ -1,5 +1,4 @@
 -- Each state of a transaction has its own test of an enlistment, and no other state may hold any.
-use borrow.Author.Rules.{rules}
 use borrow.Author.Tests.{ne_eqb}
 use Rattle.rules.specs.Sound.{may_hold}
 use Rattle.each_sound.proofs.may_hold.Goals as goal

@@ -1,5 +1,4 @@
 -- The signals are read off the holding before it changes, and what ends is what the change leaves, as in the definition.
-use borrow.Author.Rules.{rules}
 use Rattle.rules.specs.Events.{abort_of}
 use Rattle.endings.proofs.Laws.{going_ready, going_leaves}
 use Rattle.endings.proofs.abort.Goals as goal

@@ -1,7 +1,6 @@
 -- The code asks whether it is open, as the definition does: if so, the forget record of its identifier is put behind what is used of the log, and else the log stays.
 use native.Mathlib.Omega.{arith}
 use mathlib.Core.Path.{ap}
-use borrow.Author.Rules.{rules}
 use Rattle.endings.proofs.Laws.{end_open, end_quiet}
 use Rattle.endings.proofs.end.Goals as goal
 

@@ -1,7 +1,6 @@
 -- All are Done where the counts are the same.
 use mathlib.Core.Path.{refl, sym, ap, ◌∙◌}
 use lib.Dec.{eqb}
-use borrow.Author.Rules.{rules}
 use Rattle.lists.proofs.Loops.{all_count}
 use Rattle.rules.specs.Table.{is_done}
 use Rattle.rules.specs.Events.{end_if_done}

@@ -1,5 +1,4 @@
 -- The one signal stands for whatever the ending sends, in the definition too; table and log are those of the ending.
-use borrow.Author.Rules.{rules}
 use Rattle.endings.proofs.end_with.Goals as goal
 
 pub returns : goal.returns

@@ -1,5 +1,4 @@
 -- The row of no signals is the empty row of the definition, and the holding is the one that was given.
-use borrow.Author.Rules.{rules}
 use Rattle.endings.proofs.quietly.Goals as goal
 
 pub returns : goal.returns

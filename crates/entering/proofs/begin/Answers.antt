@@ -1,5 +1,4 @@
 -- The lowest empty place is the one that is found.
-use borrow.Author.Rules.{rules}
 use mathlib.Core.Path.{refl}
 use Rattle.rules.specs.Events.{begin_of}
 use Rattle.rules.specs.Checks.{begin_checks}

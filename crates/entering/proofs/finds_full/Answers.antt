@@ -1,5 +1,4 @@
 -- A place is vacant if and only if one is found.
-use borrow.Author.Rules.{rules}
 use mathlib.Core.List.{map}
 use Rattle.rules.specs.Table.{is_vacant, held}
 use Rattle.rows.specs.Memory.{enlistment_in}

@@ -1,5 +1,4 @@
 -- Whether the number is held is told by the one that is found.
-use borrow.Author.Rules.{rules}
 use Rattle.rules.specs.Table.{held, numbered}
 use Rattle.refusals.proofs.Laws.{held_has}
 use Rattle.rows.specs.Memory.{table_in}

@@ -1,5 +1,4 @@
 -- Its signals are the empty row.
-use borrow.Author.Rules.{rules}
 use Rattle.entering.proofs.silent.Goals as goal
 
 pub returns : goal.returns

@@ -1,12 +1,6 @@
 -- The entries that are passed have other managers, so that those that are left say what all from the first on say.
-use Prim.Native.Nat.{◌-◌}
 use mathlib.Core.Path.{refl}
-use borrow.Author.Rules.{rules}
-use Rattle.lists.specs.Lists.{any}
-use Rattle.lists.proofs.Loops.{Ahead, any_next, any_here, any_over}
-use lib.ListN.{drop}
-use Rattle.rules.specs.Identifiers.{same_bytes}
-use Rattle.log_reader.specs.Reading.{entries_at}
+use Rattle.lists.proofs.Loops.{any_next, any_here, any_over}
 use Rattle.entries.proofs.Rows.{entry_next, entries_over}
 use Rattle.entries.proofs.has_manager.Goals as goal
 

@@ -1,11 +1,8 @@
 -- The entries that are passed have other numbers, so that those that are left say what all say.
-use Prim.Native.Nat.{ℕ, ◌-◌}
+use Prim.Native.Nat.{ℕ}
 use mathlib.Core.Path.{refl, ap}
-use borrow.Author.Rules.{rules}
-use Rattle.lists.specs.Lists.{any}
-use Rattle.lists.proofs.Loops.{Ahead, any_next, any_here, any_over}
+use Rattle.lists.proofs.Loops.{any_next, any_here, any_over}
 use lib.Dec.{eqb}
-use Rattle.log_reader.specs.Reading.{entries_at}
 use Rattle.entries.proofs.Rows.{entry_next, entries_over}
 use Rattle.entries.proofs.has_number.Goals as goal
 

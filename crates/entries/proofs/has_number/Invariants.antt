@@ -1,12 +1,9 @@
 -- The entries that are passed have other numbers, so that those that are left say what all say.
-use Prim.Native.Nat.{ℕ, ◌-◌}
-use mathlib.Core.Path.{refl, ap}
-use borrow.Author.Rules.{rules}
+use Prim.Native.Nat.{◌-◌}
 use Rattle.lists.specs.Lists.{any}
-use Rattle.lists.proofs.Loops.{Ahead, any_next, any_here, any_over}
+use Rattle.lists.proofs.Loops.{Ahead}
 use lib.Dec.{eqb}
 use Rattle.log_reader.specs.Reading.{entries_at}
-use Rattle.entries.proofs.Rows.{entry_next, entries_over}
 use Rattle.entries.proofs.has_number.Given as goal
 
 abbrev pub invariant-loop-j : goal.invariant-loop-j

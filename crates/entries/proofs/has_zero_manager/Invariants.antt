@@ -1,12 +1,9 @@
 -- The entries that are passed have managers that are not zero, so that those that are left say what all say.
 use Prim.Native.Nat.{◌-◌}
-use mathlib.Core.Path.{refl}
-use borrow.Author.Rules.{rules}
 use Rattle.lists.specs.Lists.{any}
-use Rattle.lists.proofs.Loops.{Ahead, any_next, any_here, any_over}
+use Rattle.lists.proofs.Loops.{Ahead}
 use Rattle.rules.specs.Identifiers.{is_zero}
 use Rattle.log_reader.specs.Reading.{entries_at}
-use Rattle.entries.proofs.Rows.{entry_next, entries_over}
 use Rattle.entries.proofs.has_zero_manager.Given as goal
 
 abbrev pub invariant-loop-j : goal.invariant-loop-j

@@ -1,11 +1,7 @@
 -- No manager that is passed stands behind its place again, so that the entries that are left say what all say.
-use Prim.Native.Nat.{◌-◌}
 use mathlib.Core.Path.{refl}
-use borrow.Author.Rules.{rules}
 use Rattle.lists.specs.Lists.{differ}
-use Rattle.lists.proofs.Loops.{Ahead, ahead_done}
-use Rattle.rules.specs.Restart.{same_entry_manager}
-use Rattle.log_reader.specs.Reading.{entries_at}
+use Rattle.lists.proofs.Loops.{ahead_done}
 use Rattle.entries.proofs.Rows.{differ_next, differ_stop, entry_next, entries_over}
 use Rattle.entries.proofs.managers_differ.Goals as goal
 

@@ -1,12 +1,9 @@
 -- No manager that is passed stands behind its place again, so that the entries that are left say what all say.
 use Prim.Native.Nat.{◌-◌}
-use mathlib.Core.Path.{refl}
-use borrow.Author.Rules.{rules}
 use Rattle.lists.specs.Lists.{differ}
-use Rattle.lists.proofs.Loops.{Ahead, ahead_done}
+use Rattle.lists.proofs.Loops.{Ahead}
 use Rattle.rules.specs.Restart.{same_entry_manager}
 use Rattle.log_reader.specs.Reading.{entries_at}
-use Rattle.entries.proofs.Rows.{differ_next, differ_stop, entry_next, entries_over}
 use Rattle.entries.proofs.managers_differ.Given as goal
 
 abbrev pub invariant-loop-j : goal.invariant-loop-j

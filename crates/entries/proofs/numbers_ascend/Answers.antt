@@ -1,10 +1,7 @@
 -- The numbers that are passed ascend to the last, so that the entries that are left, from that number on, say what all say.
-use Prim.Native.Nat.{◌-◌}
 use mathlib.Core.Path.{refl}
-use borrow.Author.Rules.{rules}
-use Rattle.lists.proofs.Loops.{Ahead, ahead_next, ahead_stop, ahead_done}
+use Rattle.lists.proofs.Loops.{ahead_next, ahead_stop, ahead_done}
 use Rattle.rules.specs.Restart.{ascend_from}
-use Rattle.log_reader.specs.Reading.{entries_at}
 use Rattle.entries.proofs.Rows.{entry_next, entries_over}
 use Rattle.entries.proofs.numbers_ascend.Goals as goal
 

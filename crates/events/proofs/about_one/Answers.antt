@@ -1,5 +1,4 @@
 -- The one that holds it is taken out, changed alone and put back.
-use borrow.Author.Rules.{rules}
 use mathlib.Core.Path.{refl, sym, ap}
 use Rattle.rules.specs.Table.{numbered, held}
 use Rattle.rules.specs.Events.{reaction_of, react, reacted_of}

@@ -1,5 +1,4 @@
 -- The transaction that is named is taken out, asked alone and put back; what it lacks alone it lacks in the table.
-use borrow.Author.Rules.{rules}
 use mathlib.Core.Path.{sym, ◌∙◌, ap}
 use mathlib.Core.List.{[]}
 use borrow.Author.Tests.{eqb-true}

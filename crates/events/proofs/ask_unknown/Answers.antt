@@ -1,5 +1,4 @@
 -- Nothing stands at place 0, so its state is over.
-use borrow.Author.Rules.{rules}
 use mathlib.Core.Path.{refl, sym, ◌∙◌, ap}
 use mathlib.Core.Bool.{true}
 use Rattle.lists.proofs.Tests.{no_clash}

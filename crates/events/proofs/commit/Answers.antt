@@ -1,5 +1,4 @@
 -- The transaction that is named is taken out, changed alone and put back.
-use borrow.Author.Rules.{rules}
 use mathlib.Core.Path.{sym, ap}
 use Rattle.rules.specs.Table.{place_named}
 use Rattle.rules.specs.Events.{commit_of}

@@ -1,6 +1,5 @@
 -- Of none there is none less.
 use native.Mathlib.Omega.{arith}
-use borrow.Author.Rules.{rules}
 use Rattle.events.proofs.less.Goals as goal
 
 pub returns-then-n-gt0 : goal.returns-then-n-gt0

@@ -1,5 +1,4 @@
 -- Each event is the one that its function is for: of a sound table it is refused by the checks which that function makes, and else it is what the definition says.
-use borrow.Author.Rules.{rules}
 use mathlib.Core.Path.{ap}
 use lib.ListN.{length}
 use Rattle.rules.specs.Events.{acted}

@@ -1,5 +1,4 @@
 -- One stands elsewhere if and only if its place is found.
-use borrow.Author.Rules.{rules}
 use mathlib.Core.Path.{sym, ap}
 use Rattle.rules.specs.Signals.{row_of}
 use Rattle.rules.specs.Events.{reenlisted_of}

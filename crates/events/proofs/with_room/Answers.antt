@@ -1,5 +1,4 @@
 -- The other open ones are all but itself.
-use borrow.Author.Rules.{rules}
 use Rattle.events.proofs.with_room.Goals as goal
 
 pub returns : goal.returns

@@ -1,5 +1,4 @@
 -- None begins where neither of the two tags stands.
-use borrow.Author.Rules.{rules}
 use Rattle.first_bytes.proofs.begins_none.Goals as goal
 
 pub returns : goal.returns

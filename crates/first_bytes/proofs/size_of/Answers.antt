@@ -1,5 +1,4 @@
 -- The definition joins the same tests in the same order.
-use borrow.Author.Rules.{rules}
 use Rattle.rules.specs.Log.{size_of}
 use Rattle.first_bytes.proofs.size_of.Goals as goal
 

@@ -1,5 +1,4 @@
 -- Each call gives one test of the definition, and they are joined in its order.
-use borrow.Author.Rules.{rules}
 use Rattle.rules.specs.Restart.{is_fitting}
 use Rattle.entries.proofs.Rows.{entries_long}
 use Rattle.open_records.proofs.Rows.{opens_long}

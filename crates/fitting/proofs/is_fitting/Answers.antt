@@ -1,5 +1,4 @@
 -- The first byte tells a commit record from a forget record, here as in the definition.
-use borrow.Author.Rules.{rules}
 use Rattle.log_reader.specs.Reading.{record_at}
 use Rattle.fitting.proofs.is_fitting.Goals as goal
 

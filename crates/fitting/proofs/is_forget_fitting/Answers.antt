@@ -1,5 +1,4 @@
 -- The definition joins the same two tests.
-use borrow.Author.Rules.{rules}
 use Rattle.rules.specs.Restart.{is_fitting}
 use Rattle.fitting.proofs.is_forget_fitting.Goals as goal
 

@@ -1,9 +1,7 @@
 -- Each turn changes the enlistment of one place if it is held, so that what is left to change gives the change of all.
 use Prim.Native.Nat.{◌-◌}
-use borrow.Author.Rules.{rules}
-use Rattle.lists.proofs.Loops.{long, pass_start, pass_done}
 use Rattle.passes.specs.Change.{change_of}
-use Rattle.holdings.proofs.Passed.{part_held, PassedHeld, pass_held, pass_other}
+use Rattle.holdings.proofs.Passed.{PassedHeld}
 use Rattle.holdings.proofs.change.Given as goal
 
 abbrev pub invariant-loop-i : goal.invariant-loop-i

@@ -1,5 +1,4 @@
 -- The transaction is that of before the change.
-use borrow.Author.Rules.{rules}
 use Rattle.holdings.proofs.change_and_go.Goals as goal
 
 pub returns : goal.returns

@@ -2,12 +2,11 @@
 use native.Mathlib.Omega.{arith}
 use mathlib.Core.Path.{refl}
 use mathlib.Core.Bool.{cond}
-use borrow.Author.Rules.{rules}
 use Rattle.lists.specs.Lists.{filter, count}
-use Rattle.lists.proofs.Loops.{long, Gathered, gather_start, gather_again, gather_done}
+use Rattle.lists.proofs.Loops.{long, gather_start, gather_again, gather_done}
 use Rattle.rules.specs.Table.{held, held_by}
 use Rattle.passes.specs.Census.{census_of, counted_of}
-use Rattle.passes.proofs.Laws.{census_held, census_more, census_below}
+use Rattle.passes.proofs.Laws.{census_more, census_below}
 use Rattle.holdings.specs.Holdings.{alone}
 use Rattle.holdings.proofs.count.Goals as goal
 

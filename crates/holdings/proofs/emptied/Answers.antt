@@ -1,5 +1,4 @@
 -- First the enlistments, then the transaction.
-use borrow.Author.Rules.{rules}
 use Rattle.holdings.proofs.emptied.Goals as goal
 
 pub returns : goal.returns

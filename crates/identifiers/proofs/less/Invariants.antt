@@ -1,8 +1,6 @@
 -- The two go along together: what lessBytes says of what is left, it says of the whole.
 use Prim.Native.Nat.{◌-◌}
-use mathlib.Core.Path.{refl}
-use borrow.Author.Rules.{rules}
-use Rattle.lists.proofs.Loops.{Paired, pair_start, pair_next, pair_stop, pair_done}
+use Rattle.lists.proofs.Loops.{Paired}
 use Rattle.rules.specs.Identifiers.{less_bytes}
 use Rattle.identifiers.proofs.less.Given as goal
 

@@ -4,7 +4,6 @@ use native.Mathlib.Omega.{arith}
 use mathlib.Core.Path.{refl, ap, ◌∙◌}
 use mathlib.Core.List.{List, [], map}
 use lib.ListN.{drop, length-drop, length-map}
-use borrow.Author.Rules.{rules}
 use Rattle.lists.specs.Lists.{count}
 use Rattle.lists.proofs.Tests.{count_filter}
 use Rattle.lists.proofs.Loops.{count_most, Gathered, gather_start, gather_again, gather_done}

@@ -1,15 +1,11 @@
 -- The rows in front of the one that is looked at have failed the test, so that what is left says whether one passes it.
 use Prim.Native.Nat.{◌-◌}
-use mathlib.Core.Path.{refl, sym, ◌∙◌}
 use mathlib.Core.Bool.{◌&&◌}
-use mathlib.Core.List.{[], map}
-use lib.ListN.{length-map}
-use borrow.Author.Rules.{rules}
+use mathlib.Core.List.{map}
 use Rattle.lists.specs.Lists.{any}
-use Rattle.lists.proofs.Loops.{Looked, look_start, look_done}
+use Rattle.lists.proofs.Loops.{Looked}
 use Rattle.rules.specs.Table.{held_by, is_durable}
 use Rattle.rows.specs.Memory.{enlistment_in}
-use Rattle.rows.proofs.Mapped.{any_miss, any_hit}
 use Rattle.lent_counts.proofs.has_durable.Given as goal
 
 abbrev pub invariant-loop-i : goal.invariant-loop-i

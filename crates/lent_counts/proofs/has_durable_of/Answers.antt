@@ -1,12 +1,10 @@
 -- The rows in front of the one that is looked at have failed the test, so that what is left says whether one passes it.
-use Prim.Native.Nat.{◌-◌}
 use mathlib.Core.Path.{refl, sym, ◌∙◌}
 use mathlib.Core.Bool.{◌&&◌}
-use mathlib.Core.List.{[], map}
+use mathlib.Core.List.{[]}
 use lib.ListN.{length-map}
-use borrow.Author.Rules.{rules}
 use Rattle.lists.specs.Lists.{any}
-use Rattle.lists.proofs.Loops.{any_filter, Looked, look_start, look_done}
+use Rattle.lists.proofs.Loops.{any_filter, look_start, look_done}
 use Rattle.rules.specs.Table.{held_by, is_durable_of}
 use Rattle.rows.specs.Memory.{enlistment_in}
 use Rattle.rows.proofs.Mapped.{any_miss, any_hit}

@@ -1,5 +1,4 @@
 -- A row has its holder and its kind in the bytes that the code compares, and one that another holds fails the definition's first test.
-use borrow.Author.Rules.{rules}
 use Rattle.rows.specs.Memory.{enlistment_in}
 use Rattle.lent_counts.proofs.is_held_durable.Goals as goal
 

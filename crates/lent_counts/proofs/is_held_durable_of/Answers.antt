@@ -1,6 +1,5 @@
 -- The RM stands in the row, and is looked at only if the row is held and durable.
 use mathlib.Core.Path.{sym, ◌∙◌}
-use borrow.Author.Rules.{rules}
 use Rattle.lists.proofs.Tests.{by_test, true_and}
 use Rattle.rules.specs.Table.{held_by, is_durable}
 use Rattle.rows.specs.Memory.{enlistment_in}

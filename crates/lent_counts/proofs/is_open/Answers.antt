@@ -1,5 +1,4 @@
 -- One that is held and durable is a durable one among the held.
-use borrow.Author.Rules.{rules}
 use Rattle.lists.proofs.Loops.{any_filter}
 use Rattle.rules.specs.Table.{held_by, is_durable}
 use Rattle.lent_counts.proofs.is_open.Goals as goal

@@ -1,20 +1,16 @@
 -- From the last place to the first: what is counted are the open ones behind.
-use Prim.Native.Nat.{ℕ, suc, ◌-◌}
+use Prim.Native.Nat.{suc, ◌-◌}
 use native.Mathlib.Omega.{arith}
 use mathlib.Core.Path.{◌≡◌, refl, ap, ◌∙◌}
-use mathlib.Core.Bool.{Bool}
-use mathlib.Core.List.{List, [], map}
-use lib.ListN.{length, length-map}
-use borrow.Author.Rules.{rules}
-use Rattle.lists.specs.Lists.{filter}
+use mathlib.Core.List.{[]}
+use lib.ListN.{length-map}
 use Rattle.lists.specs.Places.{places_from}
-use Rattle.lists.proofs.Loops.{Gathered, gather_start, gather_again, gather_done}
-use Rattle.rules.specs.declared.Transaction.{Transaction}
-use Rattle.rules.specs.Table.{held_by, held}
-use Rattle.rules.specs.Sound.{is_open, open_places}
+use Rattle.lists.proofs.Loops.{gather_start, gather_again, gather_done}
+use Rattle.rules.specs.Table.{held}
+use Rattle.rules.specs.Sound.{open_places}
 use Rattle.passes.specs.Census.{more_of}
 use Rattle.passes.proofs.Laws.{places_more, places_below}
-use Rattle.rows.specs.Memory.{transaction_in, enlistment_in}
+use Rattle.rows.specs.Memory.{transaction_in}
 use Rattle.rows.proofs.Mapped.{seen}
 use Rattle.lent_counts.proofs.open_count.Invariants.{opens}
 use Rattle.lent_counts.proofs.open_count.Goals as goal

@@ -1,5 +1,4 @@
 -- A free place fails the definition's first test; of a live one the 16 bytes of the head are its identifier.
-use borrow.Author.Rules.{rules}
 use Rattle.rows.specs.Memory.{transaction_in}
 use Rattle.lent_places.proofs.is_named.Goals as goal
 

@@ -1,12 +1,10 @@
 -- The first that has the number is the first that is found.
-use Prim.Native.Nat.{◌-◌}
 use mathlib.Core.Path.{sym, ◌∙◌}
-use mathlib.Core.List.{[], map}
+use mathlib.Core.List.{[]}
 use lib.ListN.{length-map}
-use borrow.Author.Rules.{rules}
 use borrow.Author.Tests.{eq-eqb, ne_eqb}
 use Rattle.lists.specs.Lists.{first_or}
-use Rattle.lists.proofs.Loops.{Looked, look_start, look_done}
+use Rattle.lists.proofs.Loops.{look_start, look_done}
 use Rattle.rules.specs.Table.{no_enlistment, is_numbered}
 use Rattle.rows.specs.Memory.{enlistment_in}
 use Rattle.rows.proofs.Mapped.{first_miss, first_hit}

@@ -1,13 +1,9 @@
 -- The places in front of the one that is looked at have failed the test, so that the first that passes it is the definition's.
 use Prim.Native.Nat.{◌-◌}
-use mathlib.Core.Path.{◌∙◌}
 use mathlib.Core.List.{map}
-use lib.ListN.{length-map}
-use borrow.Author.Rules.{rules}
-use Rattle.lists.proofs.Loops.{Sought, look_start, seek_miss, seek_hit, seek_done}
+use Rattle.lists.proofs.Loops.{Sought}
 use Rattle.rules.specs.Table.{is_named}
 use Rattle.rows.specs.Memory.{transaction_in}
-use Rattle.rows.proofs.Mapped.{seen}
 use Rattle.lent_places.proofs.place_named.Given as goal
 
 abbrev pub invariant-loop-i : goal.invariant-loop-i

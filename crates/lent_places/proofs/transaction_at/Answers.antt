@@ -3,7 +3,6 @@ use Prim.Native.Nat.{◌-◌}
 use native.Mathlib.Omega.{arith}
 use mathlib.Core.List.{[], map}
 use lib.ListN.{length-map, get_or-eq_default}
-use borrow.Author.Rules.{rules}
 use borrow.Author.Tests.{eq-eqb, ne_eqb}
 use Rattle.lists.proofs.Places.{at_is}
 use Rattle.rules.specs.Table.{no_transaction}

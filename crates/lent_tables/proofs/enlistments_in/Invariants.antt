@@ -1,9 +1,7 @@
 -- Each is read from its own place.
 use Prim.Native.Nat.{◌-◌}
-use mathlib.Core.Path.{refl}
-use mathlib.Core.List.{[], map}
-use borrow.Author.Rules.{rules}
-use Rattle.lists.proofs.Loops.{Filled, fill_start, fill_map, fill_done}
+use mathlib.Core.List.{map}
+use Rattle.lists.proofs.Loops.{Filled}
 use Rattle.rows.specs.Memory.{enlistment_in}
 use Rattle.lent_tables.proofs.enlistments_in.Given as goal
 

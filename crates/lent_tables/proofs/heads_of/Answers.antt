@@ -1,9 +1,6 @@
 -- Each is stored in its own place.
-use Prim.Native.Nat.{◌-◌}
-use borrow.Author.Rules.{rules}
 use Rattle.lists.proofs.Loops.{long}
-use Rattle.rows.specs.Memory.{transaction_in}
-use Rattle.rows.proofs.Mapped.{Written, write_start, write_again, write_done}
+use Rattle.rows.proofs.Mapped.{write_start, write_again, write_done}
 use Rattle.lent_tables.proofs.heads_of.Goals as goal
 
 pub loop-i-init : goal.loop-i-init

@@ -1,9 +1,7 @@
 -- Each is stored in its own place.
 use Prim.Native.Nat.{◌-◌}
-use borrow.Author.Rules.{rules}
-use Rattle.lists.proofs.Loops.{long}
 use Rattle.rows.specs.Memory.{transaction_in}
-use Rattle.rows.proofs.Mapped.{Written, write_start, write_again, write_done}
+use Rattle.rows.proofs.Mapped.{Written}
 use Rattle.lent_tables.proofs.heads_of.Given as goal
 
 abbrev pub invariant-loop-i : goal.invariant-loop-i

@@ -1,5 +1,4 @@
 -- First those that it holds, then the transaction.
-use borrow.Author.Rules.{rules}
 use Rattle.lent_tables.proofs.put_back.Goals as goal
 
 pub returns : goal.returns

@@ -1,5 +1,5 @@
 -- Place by place, those that were held are refilled.
-use Prim.Native.Nat.{◌-◌, ◌<◌}
+use Prim.Native.Nat.{◌<◌}
 use native.Mathlib.Omega.{arith}
 use mathlib.Core.Path.{◌≡◌, ◌∙◌}
 use mathlib.Core.List.{[]}
@@ -8,7 +8,7 @@ use borrow.Author.Rules.{rules}
 use Rattle.lists.proofs.Loops.{long, get_or_any}
 use Rattle.rules.specs.Table.{no_enlistment}
 use Rattle.rows.specs.Memory.{enlistment_in}
-use Rattle.lent_tables.proofs.Putting.{Putting, put_start, put_below, put_other, put_mine, put_done}
+use Rattle.lent_tables.proofs.Putting.{put_start, put_below, put_other, put_mine, put_done}
 use Rattle.lent_tables.proofs.put_rows.Goals as goal
 
 pub loop-i-init : goal.loop-i-init

@@ -1,5 +1,4 @@
 -- Its lists are read one after the other.
-use borrow.Author.Rules.{rules}
 use Rattle.lent_tables.proofs.table_in.Goals as goal
 
 pub returns : goal.returns

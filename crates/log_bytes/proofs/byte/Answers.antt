@@ -1,7 +1,6 @@
 -- Within the log the sum does not wrap and the byte is read; past its end the definition reads 0 too.
 use native.Mathlib.Omega.{arith}
 use mathlib.Core.Path.{sym}
-use borrow.Author.Rules.{rules}
 use lib.ListN.{get_or-eq_default}
 use Rattle.log_bytes.proofs.byte.Goals as goal
 

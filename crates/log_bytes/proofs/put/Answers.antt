@@ -1,6 +1,5 @@
 -- Past the end of the log `set` changes nothing.
 use mathlib.Core.Path.{sym}
-use borrow.Author.Rules.{rules}
 use lib.Seq.{set_out}
 use Rattle.log_bytes.proofs.put.Goals as goal
 

@@ -1,11 +1,7 @@
 -- Log and header go along together: the bytes that are passed are equal, so that what is left of both says what the whole does.
 use Prim.Native.Nat.{◌-◌}
-use mathlib.Core.Path.{refl}
-use borrow.Author.Rules.{rules}
-use Rattle.lists.proofs.Loops.{pair_done}
-use Rattle.rules.specs.Identifiers.{same_bytes}
 use Rattle.rules.specs.Log.{header}
-use Rattle.log_header.proofs.Headers.{Compared, compare_start, compare_next, compare_stop}
+use Rattle.log_header.proofs.Headers.{Compared}
 use Rattle.log_header.proofs.begins_header.Given as goal
 
 abbrev pub invariant-loop-i : goal.invariant-loop-i

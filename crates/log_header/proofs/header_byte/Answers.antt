@@ -1,6 +1,5 @@
 -- The array is the header, and past its end the definition reads 0 too.
 use mathlib.Core.Path.{sym}
-use borrow.Author.Rules.{rules}
 use lib.ListN.{get_or-eq_default}
 use Rattle.rules.specs.Log.{header}
 use Rattle.log_header.proofs.header_byte.Goals as goal

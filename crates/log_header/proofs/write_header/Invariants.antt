@@ -1,12 +1,8 @@
 -- Each turn stores one byte, so that the bytes that are left, stored behind it, give the whole.
 use Prim.Native.Nat.{◌-◌}
-use native.Mathlib.Omega.{arith}
-use mathlib.Core.Path.{refl, ◌∙◌, ap₂}
-use lib.ListN.{set}
-use borrow.Author.Rules.{rules}
-use Rattle.lists.proofs.Stores.{Stored, store_start, store_again, store_done}
+use Rattle.lists.proofs.Stores.{Stored}
 use Rattle.rules.specs.Sizes.{header_size}
-use Rattle.rules.specs.Log.{header, written}
+use Rattle.rules.specs.Log.{header}
 use Rattle.log_header.proofs.write_header.Given as goal
 
 abbrev pub invariant-loop-i : goal.invariant-loop-i

@@ -1,5 +1,4 @@
 -- The number of entries is the second byte.
-use borrow.Author.Rules.{rules}
 use Rattle.log_reader.specs.Reading.{entries_count}
 use Rattle.log_reader.proofs.entries_count.Goals as goal
 

@@ -1,5 +1,4 @@
 -- The identifier stands behind the first two bytes.
-use borrow.Author.Rules.{rules}
 use Rattle.log_reader.specs.Reading.{identifier_at}
 use Rattle.log_reader.proofs.identifier_at.Goals as goal
 

@@ -1,8 +1,6 @@
 -- Each turn puts one byte, so that the bytes that are still to be put, behind those that are, are the whole.
 use Prim.Native.Nat.{◌-◌}
-use borrow.Author.Rules.{rules}
-use Rattle.lists.proofs.Loops.{rewrite_done}
-use Rattle.log_reader.proofs.Places.{Put, put_start, put_again, put_none}
+use Rattle.log_reader.proofs.Places.{Put}
 use Rattle.log_reader.proofs.identifier_from.Given as goal
 
 abbrev pub invariant-loop-i : goal.invariant-loop-i

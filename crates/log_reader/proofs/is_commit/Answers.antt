@@ -1,6 +1,5 @@
 -- The first byte is the tag.
 use native.Mathlib.Nat.{add-zero}
-use borrow.Author.Rules.{rules}
 use Rattle.log_reader.specs.Reading.{is_commit_at}
 use Rattle.log_reader.proofs.is_commit.Goals as goal
 

@@ -1,5 +1,4 @@
 -- Entry j begins behind the record's fixed part and j entries.
-use borrow.Author.Rules.{rules}
 use Rattle.log_reader.specs.Reading.{manager_at}
 use Rattle.log_reader.proofs.manager_at.Goals as goal
 

@@ -1,6 +1,5 @@
 -- What is left of the stored bytes decides how many are read, here as in the definition.
 use native.Mathlib.Nat.{add-zero}
-use borrow.Author.Rules.{rules}
 use Rattle.log_reader.specs.Reading.{none_at}
 use Rattle.log_reader.proofs.none_at.Goals as goal
 

@@ -1,5 +1,4 @@
 -- The number stands behind the manager of its entry.
-use borrow.Author.Rules.{rules}
 use Rattle.log_reader.specs.Reading.{number_at}
 use Rattle.log_reader.proofs.number_at.Goals as goal
 

@@ -1,6 +1,5 @@
 -- The four bytes stand one behind the other, each read by its own sum.
 use mathlib.Core.Path.{◌∙◌}
-use borrow.Author.Rules.{rules}
 use Rattle.log_reader.proofs.Places.{four_bytes}
 use Rattle.log_reader.proofs.number_from.Goals as goal
 

@@ -1,6 +1,5 @@
 -- The two bytes stand at the place and behind it.
 use native.Mathlib.Nat.{add-zero}
-use borrow.Author.Rules.{rules}
 use Rattle.log_reader.proofs.size_at.Goals as goal
 
 pub returns : goal.returns

@@ -1,5 +1,4 @@
 -- A record is whole where two bytes are left, and then as many as these say.
-use borrow.Author.Rules.{rules}
 use Rattle.log_reader.specs.Reading.{whole_at}
 use Rattle.log_reader.proofs.whole_at.Goals as goal
 

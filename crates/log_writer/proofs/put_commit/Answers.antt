@@ -3,7 +3,6 @@ use native.Mathlib.Omega.{arith}
 use mathlib.Core.Path.{◌≡◌}
 use lib.ListN.{length, take}
 use lib.Seq.{length-take-le}
-use borrow.Author.Rules.{rules}
 use Rattle.lists.proofs.Loops.{long}
 use Rattle.log_writer.proofs.Stores.{commit_stored, commit_length}
 use Rattle.log_writer.proofs.put_commit.Goals as goal

@@ -1,12 +1,10 @@
 -- Each entry is stored behind the one before it, so that those that are left give the whole.
-use Prim.Native.Nat.{◌-◌}
 use native.Mathlib.Omega.{arith}
 use mathlib.Core.Path.{◌≡◌, sym}
-use lib.ListN.{take, length}
+use lib.ListN.{length}
 use lib.Seq.{length-take-le, get_or-take}
-use borrow.Author.Rules.{rules}
 use Rattle.lists.proofs.Loops.{long}
-use Rattle.log_writer.proofs.Stores.{Entered, enter_start, enter_again, enter_done}
+use Rattle.log_writer.proofs.Stores.{enter_start, enter_again, enter_done}
 use Rattle.log_writer.proofs.put_entries.Goals as goal
 
 pub loop-i-init : goal.loop-i-init

@@ -1,7 +1,6 @@
 -- The number is stored right behind the identifier, whose length is known.
 use native.Mathlib.Omega.{arith}
 use lib.ListN.{length-append}
-use borrow.Author.Rules.{rules}
 use Rattle.lists.proofs.Stores.{sets_append}
 use Rattle.log_writer.proofs.put_entry.Goals as goal
 

@@ -1,7 +1,6 @@
 -- The pieces of the record follow one another without a gap.
 use native.Mathlib.Omega.{arith}
 use mathlib.Core.Path.{sym}
-use borrow.Author.Rules.{rules}
 use Rattle.rules.proofs.Records.{forget_size_lem}
 use Rattle.log_writer.proofs.Stores.{forget_stored}
 use Rattle.log_writer.proofs.put_forget.Goals as goal

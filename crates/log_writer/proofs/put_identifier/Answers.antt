@@ -1,8 +1,6 @@
 -- Each byte is stored behind the one before it, so that those that are left give the whole.
-use Prim.Native.Nat.{◌-◌}
 use borrow.Author.Rules.{rules}
-use Rattle.rules.specs.Sizes.{identifier_size}
-use Rattle.lists.proofs.Stores.{Stored, store_start, store_again, store_done}
+use Rattle.lists.proofs.Stores.{store_start, store_again, store_done}
 use Rattle.log_writer.proofs.put_identifier.Goals as goal
 
 pub loop-i-init : goal.loop-i-init

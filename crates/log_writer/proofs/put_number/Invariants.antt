@@ -1,7 +1,6 @@
 -- Each of the four bytes is stored behind the one before it, so that those that are left give the whole.
 use Prim.Native.Nat.{◌-◌}
-use borrow.Author.Rules.{rules}
-use Rattle.lists.proofs.Stores.{Stored, store_start, store_again, store_done}
+use Rattle.lists.proofs.Stores.{Stored}
 use Rattle.log_writer.proofs.put_number.Given as goal
 
 abbrev pub invariant-loop-i : goal.invariant-loop-i

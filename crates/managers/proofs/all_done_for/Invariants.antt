@@ -1,8 +1,6 @@
 -- What is left to change, place by place, gives the change of all: each turn puts what the definition makes of one enlistment.
 use Prim.Native.Nat.{◌-◌}
-use mathlib.Core.Path.{refl}
-use borrow.Author.Rules.{rules}
-use Rattle.lists.proofs.Loops.{long, Part, Passed, pass_start, pass_again, pass_done}
+use Rattle.lists.proofs.Loops.{Passed}
 use Rattle.rules.specs.declared.Table.{Table}
 use Rattle.rules.specs.Table.{with_enlistments}
 use Rattle.rules.specs.Events.{done_for}

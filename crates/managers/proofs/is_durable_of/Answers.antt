@@ -1,5 +1,4 @@
 -- Where it is not durable the conjunction is false, and else it is the test of the bytes.
-use borrow.Author.Rules.{rules}
 use Rattle.managers.proofs.is_durable_of.Goals as goal
 
 pub returns-then-durable : goal.returns-then-durable

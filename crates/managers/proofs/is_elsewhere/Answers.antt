@@ -1,6 +1,5 @@
 -- Where it is Done, or not of the resource manager, the conjunction is false, and else it is the test of the state.
 use mathlib.Core.Path.{sym, ◌∙◌}
-use borrow.Author.Rules.{rules}
 use Rattle.managers.proofs.is_elsewhere.Goals as goal
 
 pub returns-then-its : goal.returns-then-its

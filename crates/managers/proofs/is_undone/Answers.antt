@@ -1,6 +1,5 @@
 -- Where it is not of the resource manager the conjunction is false, and else it is the test of the state.
 use mathlib.Core.Path.{sym, ◌∙◌}
-use borrow.Author.Rules.{rules}
 use Rattle.managers.proofs.is_undone.Goals as goal
 
 pub returns-then-its : goal.returns-then-its

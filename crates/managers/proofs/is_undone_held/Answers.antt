@@ -1,5 +1,4 @@
 -- Where another holds it the conjunction is false, and else it is its second test.
-use borrow.Author.Rules.{rules}
 use Rattle.managers.proofs.is_undone_held.Goals as goal
 
 pub returns-then-mine : goal.returns-then-mine

@@ -1,7 +1,6 @@
 -- The places are tested in their order: as long as none was met that passes, the first place is among those that are left.
 use Prim.Native.Nat.{◌-◌}
-use borrow.Author.Rules.{rules}
-use Rattle.lists.proofs.Loops.{long, Sought, look_start, seek_miss, seek_hit, seek_done}
+use Rattle.lists.proofs.Loops.{Sought}
 use mathlib.Core.Bool.{not, ◌&&◌}
 use Rattle.rules.specs.EnlistmentState.{failed_to_notify}
 use Rattle.rules.specs.Table.{is_in}

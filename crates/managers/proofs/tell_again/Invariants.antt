@@ -1,9 +1,7 @@
 -- What is left to change, place by place, gives the change of all that are held: each turn puts what the definition makes of one of them.
 use Prim.Native.Nat.{◌-◌}
-use borrow.Author.Rules.{rules}
-use Rattle.lists.proofs.Loops.{long, pass_start, pass_done}
 use Rattle.rules.specs.Events.{told_again}
-use Rattle.holdings.proofs.Passed.{part_held, PassedHeld, pass_held, pass_other}
+use Rattle.holdings.proofs.Passed.{PassedHeld}
 use Rattle.managers.proofs.tell_again.Given as goal
 
 abbrev pub invariant-loop-i : goal.invariant-loop-i

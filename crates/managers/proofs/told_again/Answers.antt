@@ -1,6 +1,5 @@
 -- Where a test fails the conjunction is false, and the definition leaves the enlistment too.
 use mathlib.Core.Path.{sym, ◌∙◌}
-use borrow.Author.Rules.{rules}
 use Rattle.managers.proofs.told_again.Goals as goal
 
 pub returns-then-failed : goal.returns-then-failed

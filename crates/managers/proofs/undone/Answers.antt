@@ -1,12 +1,8 @@
 -- The places are tested in their order: as long as none was met that passes, what is left has the same first.
-use Prim.Native.Nat.{◌-◌}
 use mathlib.Core.Path.{refl, sym, ◌∙◌}
-use mathlib.Core.Bool.{◌&&◌}
-use borrow.Author.Rules.{rules}
 use Rattle.lists.specs.Lists.{first_or}
-use Rattle.lists.proofs.Loops.{long, first_filter, Looked, look_start, look_next, look_stop, look_done}
-use Rattle.rules.specs.Table.{no_enlistment, held, held_by}
-use Rattle.rules.specs.Events.{is_undone}
+use Rattle.lists.proofs.Loops.{long, first_filter, look_start, look_next, look_stop, look_done}
+use Rattle.rules.specs.Table.{held}
 use Rattle.passes.proofs.Laws.{nowhere}
 use Rattle.holdings.specs.Holdings.{alone}
 use Rattle.managers.proofs.undone.Goals as goal

@@ -1,8 +1,7 @@
 -- What is left of the identifier, stored behind what was stored, gives the whole of it at its place.
-use Prim.Native.Nat.{◌-◌}
 use mathlib.Core.Path.{refl}
 use borrow.Author.Rules.{rules}
-use Rattle.lists.proofs.Stores.{Stored, store_start, store_again, store_done}
+use Rattle.lists.proofs.Stores.{store_start, store_again, store_done}
 use Rattle.message_fields.proofs.put_identifier.Goals as goal
 
 pub loop-i-init : goal.loop-i-init

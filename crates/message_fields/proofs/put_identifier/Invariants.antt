@@ -1,8 +1,6 @@
 -- What is left of the identifier, stored behind what was stored, gives the whole of it at its place.
 use Prim.Native.Nat.{◌-◌}
-use mathlib.Core.Path.{refl}
-use borrow.Author.Rules.{rules}
-use Rattle.lists.proofs.Stores.{Stored, store_start, store_again, store_done}
+use Rattle.lists.proofs.Stores.{Stored}
 use Rattle.message_fields.proofs.put_identifier.Given as goal
 
 abbrev pub invariant-loop-i : goal.invariant-loop-i

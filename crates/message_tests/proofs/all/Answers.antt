@@ -1,6 +1,5 @@
 -- `every` is `&&` upon `&&`, and its last one, with true, changes nothing.
 use mathlib.Core.Bool.{and-true}
-use borrow.Author.Rules.{rules}
 use Rattle.lists.specs.Lists.{every}
 use Rattle.message_tests.proofs.all.Goals as goal
 

@@ -1,5 +1,4 @@
 -- `both` joins the answer of `is_writable` and the test of the length as the definition does.
-use borrow.Author.Rules.{rules}
 use Rattle.message_tests.proofs.fits.Goals as goal
 
 pub returns : goal.returns

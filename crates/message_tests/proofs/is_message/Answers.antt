@@ -1,5 +1,4 @@
 -- Bytes that are too few for a header fail the first test of the definition; in others every field is there, and each further test is one answer.
-use borrow.Author.Rules.{rules}
 use borrow.Author.Tests.{le-leb, lt-leb}
 use Rattle.lists.specs.Lists.{every}
 use Rattle.rules.specs.Messages.{is_message}

@@ -1,5 +1,4 @@
 -- Each test of the definition is one answer, and `all` joins them as `every` does.
-use borrow.Author.Rules.{rules}
 use Rattle.rules.specs.Messages.{is_writable}
 use Rattle.message_tests.proofs.is_writable.Goals as goal
 

@@ -1,5 +1,4 @@
 -- The definition compares with 16 zeros too.
-use borrow.Author.Rules.{rules}
 use Rattle.message_tests.proofs.is_zero.Goals as goal
 
 pub returns : goal.returns

@@ -1,7 +1,5 @@
 -- The table has the definition's types in their order, so that what is left of it decides as the whole does, and the first row that fits is the definition's.
-use Prim.Native.Nat.{◌-◌}
-use borrow.Author.Rules.{rules}
-use Rattle.message_types.proofs.Types.{table, LookedUp, look_up_start, look_up_next, look_up_here, look_up_end}
+use Rattle.message_types.proofs.Types.{table, look_up_start, look_up_next, look_up_here, look_up_end}
 use Rattle.message_types.proofs.payload_of.Goals as goal
 
 pub loop-i-init : goal.loop-i-init

@@ -1,5 +1,4 @@
 -- Each field starts where the one before it ends, so that the six stores are one store of the header.
-use borrow.Author.Rules.{rules}
 use Rattle.messages.proofs.put_header.Goals as goal
 
 pub returns : goal.returns

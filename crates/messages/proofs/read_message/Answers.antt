@@ -1,6 +1,5 @@
 -- The test decides between the message and the refusal, as the definition does.
 use mathlib.Core.Path.{sym, ◌∙◌}
-use borrow.Author.Rules.{rules}
 use Rattle.rules.specs.Messages.{read_of}
 use Rattle.messages.proofs.read_message.Goals as goal
 

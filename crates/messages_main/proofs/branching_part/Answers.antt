@@ -1,7 +1,6 @@
 -- A part that is no longer than the vector is as long as it says.
 use native.Mathlib.Omega.{arith}
 use mathlib.Core.Path.{sym}
-use borrow.Author.Rules.{rules}
 use lib.Seq.{length-take-le}
 use Rattle.messages_main.proofs.branching_part.Goals as goal
 

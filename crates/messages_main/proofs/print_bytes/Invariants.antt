@@ -1,6 +1,5 @@
 -- Each turn prints a byte that is there, and leaves one less.
 use Prim.Native.Nat.{◌≤◌, ◌-◌}
-use borrow.Author.Rules.{rules}
 use lib.ListN.{length}
 use Rattle.messages_main.proofs.print_bytes.Given as goal
 

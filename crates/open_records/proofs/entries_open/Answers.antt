@@ -1,9 +1,7 @@
 -- Each record adds as many as its second byte says, so that the sum so far and the entries that are left are all.
-use Prim.Native.Nat.{◌-◌}
 use native.Mathlib.Omega.{arith}
 use borrow.Author.Rules.{rules}
-use Rattle.open_records.specs.Opening.{opens_of}
-use Rattle.open_records.proofs.Rows.{Summed, summed_next, summed_done, open_next, opens_over}
+use Rattle.open_records.proofs.Rows.{summed_next, summed_done, open_next, opens_over}
 use Rattle.open_records.proofs.entries_open.Goals as goal
 
 pub loop-i-init : goal.loop-i-init

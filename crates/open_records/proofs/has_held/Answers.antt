@@ -1,13 +1,6 @@
 -- No number that is passed is held in an open record, so that the entries that are left say what all say.
-use Prim.Native.Nat.{◌-◌}
 use mathlib.Core.Path.{refl}
-use borrow.Author.Rules.{rules}
-use lib.Dec.{eqb}
-use Rattle.lists.specs.Lists.{any}
-use Rattle.lists.proofs.Loops.{Ahead, any_next, any_here, any_over}
-use Rattle.rules.specs.Restart.{entries_open}
-use Rattle.log_reader.specs.Reading.{entries_at}
-use Rattle.open_records.specs.Opening.{opens_of}
+use Rattle.lists.proofs.Loops.{any_next, any_here, any_over}
 use Rattle.entries.proofs.Rows.{entry_next, entries_over}
 use Rattle.open_records.proofs.has_held.Goals as goal
 

@@ -1,11 +1,5 @@
 -- An entry of all open records is an entry of one of them, and those that are passed don't have the number.
-use Prim.Native.Nat.{◌-◌}
-use borrow.Author.Rules.{rules}
-use lib.Dec.{eqb}
-use Rattle.lists.specs.Lists.{any}
-use Rattle.lists.proofs.Loops.{Ahead, any_next, any_here, any_over}
-use Rattle.rules.specs.Restart.{entries_open}
-use Rattle.open_records.specs.Opening.{opens_of}
+use Rattle.lists.proofs.Loops.{any_next, any_here, any_over}
 use Rattle.open_records.proofs.Rows.{open_next, opens_over, any_entries}
 use Rattle.open_records.proofs.is_held.Goals as goal
 

@@ -1,12 +1,9 @@
 -- The open records that are passed are other transactions', so that those that are left say what all say.
 use Prim.Native.Nat.{◌-◌}
-use mathlib.Core.Path.{refl}
-use borrow.Author.Rules.{rules}
 use Rattle.lists.specs.Lists.{any}
-use Rattle.lists.proofs.Loops.{Ahead, any_next, any_here, any_over}
+use Rattle.lists.proofs.Loops.{Ahead}
 use Rattle.rules.specs.Restart.{is_open_as}
 use Rattle.open_records.specs.Opening.{opens_of}
-use Rattle.open_records.proofs.Rows.{open_next, opens_over}
 use Rattle.open_records.proofs.is_open.Given as goal
 
 abbrev pub invariant-loop-i : goal.invariant-loop-i

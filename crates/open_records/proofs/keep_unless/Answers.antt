@@ -1,5 +1,4 @@
 -- One comparison decides, here as in the definition.
-use borrow.Author.Rules.{rules}
 use Rattle.open_records.proofs.keep_unless.Goals as goal
 
 pub returns-then-same : goal.returns-then-same

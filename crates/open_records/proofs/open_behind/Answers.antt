@@ -1,5 +1,4 @@
 -- The first byte says which of the two a record does: it puts its place behind the others, or takes its transaction's away.
-use borrow.Author.Rules.{rules}
 use Rattle.open_records.specs.Opening.{open_behind}
 use Rattle.open_records.proofs.open_behind.Goals as goal
 

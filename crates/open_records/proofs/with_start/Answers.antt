@@ -1,5 +1,4 @@
 -- As many places are in use as are counted, so that the test of the code is that of the definition.
-use borrow.Author.Rules.{rules}
 use borrow.Author.Tests.{lt-ltb, le-ltb}
 use Rattle.open_records.specs.Opening.{with_start}
 use Rattle.open_records.proofs.with_start.Goals as goal

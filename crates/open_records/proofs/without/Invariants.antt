@@ -1,10 +1,7 @@
 -- Each place that is passed is kept, or was the transaction's, so that the places that are left, behind those kept, give the whole.
 use Prim.Native.Nat.{◌-◌}
-use mathlib.Core.Path.{refl}
-use borrow.Author.Rules.{rules}
-use Rattle.lists.proofs.Loops.{Ahead, ahead_next, ahead_done}
+use Rattle.lists.proofs.Loops.{Ahead}
 use Rattle.open_records.specs.Opening.{starts_of, none_open, kept_from}
-use Rattle.open_records.proofs.Rows.{start_next, starts_over}
 use Rattle.open_records.proofs.without.Given as goal
 
 abbrev pub invariant-loop-i : goal.invariant-loop-i

@@ -1,6 +1,5 @@
 -- The code asks what the definition asks, whether it hears an abort and then whether it is prepared and lost, in the same order, so that each case computes to the same.
 use mathlib.Core.Path.{sym, ◌∙◌}
-use borrow.Author.Rules.{rules}
 use Rattle.rules.specs.Events.{aborted_of}
 use Rattle.passes.proofs.aborted.Goals as goal
 

@@ -1,5 +1,4 @@
 -- The definition, too, goes by which change it is, and each case calls what is proved to make the change that it names there.
-use borrow.Author.Rules.{rules}
 use Rattle.passes.proofs.changed.Goals as goal
 
 pub returns-in-Freed : goal.returns-in-Freed

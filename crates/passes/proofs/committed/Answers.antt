@@ -1,5 +1,4 @@
 -- The code asks what the definition asks, whether it is prepared and then whether it is prepared and lost, in the same order, so that each case computes to the same.
-use borrow.Author.Rules.{rules}
 use Rattle.rules.specs.Events.{committed_of}
 use Rattle.passes.proofs.committed.Goals as goal
 

@@ -1,5 +1,4 @@
 -- Each count is counted on by itself.
-use borrow.Author.Rules.{rules}
 use Rattle.passes.specs.Census.{counted_of}
 use Rattle.passes.proofs.counted.Goals as goal
 

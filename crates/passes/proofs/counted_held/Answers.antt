@@ -1,5 +1,4 @@
 -- Those of another transaction are not counted.
-use borrow.Author.Rules.{rules}
 use Rattle.passes.proofs.counted_held.Goals as goal
 
 pub returns-then-mine : goal.returns-then-mine

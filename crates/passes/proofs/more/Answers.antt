@@ -1,6 +1,5 @@
 -- The definition, too, adds one where the test passes and nothing where it fails.
 use native.Mathlib.Numerals.{add-one}
-use borrow.Author.Rules.{rules}
 use Rattle.passes.proofs.more.Goals as goal
 
 pub returns-then-so : goal.returns-then-so

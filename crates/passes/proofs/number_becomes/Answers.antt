@@ -1,5 +1,4 @@
 -- The one with the number is the one that the definition changes; any other is left by both.
-use borrow.Author.Rules.{rules}
 use Rattle.passes.proofs.number_becomes.Goals as goal
 
 pub returns-then-named : goal.returns-then-named

@@ -1,5 +1,4 @@
 -- A phase-zero enlistment is the one that the definition changes; any other is left by both.
-use borrow.Author.Rules.{rules}
 use Rattle.passes.proofs.zeroed.Goals as goal
 
 pub returns-then-phase_zero : goal.returns-then-phase_zero

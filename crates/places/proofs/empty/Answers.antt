@@ -1,5 +1,4 @@
 -- Both arrays repeat one place, and that one is empty.
-use borrow.Author.Rules.{rules}
 use Rattle.places.proofs.empty.Goals as goal
 
 pub returns : goal.returns

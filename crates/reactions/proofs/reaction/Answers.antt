@@ -1,5 +1,4 @@
 -- Each act has its own reaction, here as in the definition; the others are refused.
-use borrow.Author.Rules.{rules}
 use Rattle.rules.specs.Events.{reaction_of}
 use Rattle.reactions.proofs.reaction.Goals as goal
 

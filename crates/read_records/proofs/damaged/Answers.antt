@@ -1,5 +1,4 @@
 -- Beside the mark and the used length it gives a row in which none is open.
-use borrow.Author.Rules.{rules}
 use Rattle.read_records.proofs.damaged.Goals as goal
 
 pub returns : goal.returns

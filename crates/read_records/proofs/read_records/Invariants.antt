@@ -1,10 +1,6 @@
 -- What is left to read, judged with the records that are open so far, gives the whole, and each turn reads on.
 use Prim.Native.Nat.{◌-◌}
-use native.Mathlib.Omega.{arith}
-use mathlib.Core.Path.{sym, ◌∙◌}
-use borrow.Author.Rules.{rules}
-use Rattle.log_reader.proofs.Scanning.{whole_within}
-use Rattle.read_records.proofs.Judging.{Reading, reading_start, reading_again, reading_unfit, reading_none, reading_done}
+use Rattle.read_records.proofs.Judging.{Reading}
 use Rattle.read_records.proofs.read_records.Given as goal
 
 abbrev pub invariant-loop-none : goal.invariant-loop-none

@@ -1,5 +1,4 @@
 -- A return stands behind the failed tests of the checks in front of its own, so that its own is the first that applies.
-use borrow.Author.Rules.{rules}
 use Rattle.rules.specs.Refusals.{first_of}
 use Rattle.refusals.proofs.ask.Goals as goal
 

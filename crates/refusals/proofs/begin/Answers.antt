@@ -1,6 +1,5 @@
 -- A return stands behind the failed tests of the checks in front of its own, so that its own is the first that applies.
 use mathlib.Core.Path.{sym, ◌∙◌}
-use borrow.Author.Rules.{rules}
 use Rattle.rules.specs.Refusals.{first_of}
 use Rattle.refusals.proofs.begin.Goals as goal
 

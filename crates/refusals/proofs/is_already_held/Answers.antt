@@ -1,7 +1,6 @@
 -- Only a durable enlistment can be a second one.
 use mathlib.Core.Path.{sym}
 use mathlib.Core.Bool.{or-false}
-use borrow.Author.Rules.{rules}
 use Rattle.refusals.proofs.is_already_held.Goals as goal
 
 pub returns-then-durable : goal.returns-then-durable

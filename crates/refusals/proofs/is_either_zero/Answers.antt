@@ -1,6 +1,5 @@
 -- Where the first is zero the disjunction is true, and else it is its second test.
 use mathlib.Core.Path.{sym, ◌∙◌}
-use borrow.Author.Rules.{rules}
 use Rattle.refusals.proofs.is_either_zero.Goals as goal
 
 pub returns-then-zero : goal.returns-then-zero

@@ -1,5 +1,4 @@
 -- Manager and number are read from the entry; all else is what the rules give a restored one.
-use borrow.Author.Rules.{rules}
 use Rattle.reopening.proofs.enlistment_of.Goals as goal
 
 pub returns : goal.returns

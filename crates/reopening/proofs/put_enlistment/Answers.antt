@@ -1,7 +1,6 @@
 -- Past the last place `set` changes nothing.
 use native.Mathlib.Omega.{arith}
 use mathlib.Core.Path.{◌≡◌}
-use borrow.Author.Rules.{rules}
 use lib.ListN.{length}
 use lib.Seq.{set_out}
 use Rattle.lists.proofs.Loops.{long}

@@ -1,12 +1,10 @@
 -- The entries of a record go behind those before them, so that the records that are left, from that place on, give the whole.
-use Prim.Native.Nat.{◌-◌}
 use native.Mathlib.Omega.{arith}
 use mathlib.Core.Path.{sym, ◌∙◌}
 use borrow.Author.Rules.{rules}
-use Rattle.open_records.specs.Opening.{opens_of}
 use Rattle.entries.proofs.Rows.{entries_long}
 use Rattle.open_records.proofs.Rows.{open_next, opens_over}
-use Rattle.reopening.proofs.Building.{Enlisting, enlisting_start, enlisting_again, enlisting_done}
+use Rattle.reopening.proofs.Building.{enlisting_start, enlisting_again, enlisting_done}
 use Rattle.reopening.proofs.put_enlistments.Goals as goal
 
 pub loop-i-init : goal.loop-i-init

@@ -1,9 +1,7 @@
 -- Each entry goes behind the one before it, so that the entries that are left give the whole.
 use Prim.Native.Nat.{◌-◌}
-use borrow.Author.Rules.{rules}
 use Rattle.log_reader.specs.Reading.{entries_at}
-use Rattle.entries.proofs.Rows.{entry_next, entries_over}
-use Rattle.reopening.proofs.Building.{Entering, entering_start, entering_again, entering_done}
+use Rattle.reopening.proofs.Building.{Entering}
 use Rattle.reopening.proofs.put_entries.Given as goal
 
 abbrev pub invariant-loop-j : goal.invariant-loop-j

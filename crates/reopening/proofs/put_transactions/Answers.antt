@@ -1,9 +1,6 @@
 -- Each record's transaction goes behind the one before it, so that the records that are left give the whole.
-use Prim.Native.Nat.{◌-◌}
-use borrow.Author.Rules.{rules}
-use Rattle.open_records.specs.Opening.{opens_of}
 use Rattle.open_records.proofs.Rows.{open_next, opens_over}
-use Rattle.reopening.proofs.Building.{Naming, naming_start, naming_again, naming_done}
+use Rattle.reopening.proofs.Building.{naming_start, naming_again, naming_done}
 use Rattle.reopening.proofs.put_transactions.Goals as goal
 
 pub loop-i-init : goal.loop-i-init

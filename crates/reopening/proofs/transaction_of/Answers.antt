@@ -1,5 +1,4 @@
 -- The identifier is read from the record, and the state is Committing of all.
-use borrow.Author.Rules.{rules}
 use Rattle.reopening.proofs.transaction_of.Goals as goal
 
 pub returns : goal.returns

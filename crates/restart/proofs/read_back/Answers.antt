@@ -1,6 +1,5 @@
 -- Damage is told before a short log; else the table is that of the open records, since all that is read fits.
 use native.Mathlib.Omega.{arith}
-use borrow.Author.Rules.{rules}
 use Rattle.restart.proofs.Answers.{answer_damaged, answer_short, answer_done}
 use Rattle.restart.proofs.read_back.Goals as goal
 

@@ -1,5 +1,4 @@
 -- A table with empty places, of capacity and used length 0, is all zeros.
-use borrow.Author.Rules.{rules}
 use Rattle.restart.proofs.refused.Goals as goal
 
 pub returns : goal.returns

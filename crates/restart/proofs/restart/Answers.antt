@@ -1,7 +1,6 @@
 -- Each test leaves one answer of the definition, and the header is written only where less than that is stored.
 use native.Mathlib.Omega.{arith}
 use mathlib.Core.Path.{refl, sym, ◌∙◌}
-use borrow.Author.Rules.{rules}
 use Rattle.rules.proofs.Restarts.{inside}
 use Rattle.restart.proofs.Answers.{outside_is, begun_is, not_begun_is, headed_is, not_headed_is, read_leaves, header_written}
 use Rattle.restart.proofs.restart.Goals as goal

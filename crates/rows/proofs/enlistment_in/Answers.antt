@@ -1,5 +1,4 @@
 -- Each field is read where it stands.
-use borrow.Author.Rules.{rules}
 use Rattle.rows.specs.Memory.{enlistment_in}
 use Rattle.rows.proofs.enlistment_in.Goals as goal
 

@@ -1,5 +1,4 @@
 -- The bytes are read in their order.
-use borrow.Author.Rules.{rules}
 use Rattle.rows.proofs.Spelling.{spelt, spelt_is}
 use Rattle.rows.proofs.identifier_in.Goals as goal
 

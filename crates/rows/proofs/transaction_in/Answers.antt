@@ -1,5 +1,4 @@
 -- The identifier stands in front of the state.
-use borrow.Author.Rules.{rules}
 use Rattle.rows.specs.Memory.{transaction_in}
 use Rattle.rows.proofs.transaction_in.Goals as goal
 

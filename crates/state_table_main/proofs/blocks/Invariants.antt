@@ -1,7 +1,6 @@
 -- Each turn goes down by one.
 use mathlib.Core.Path.{◌≡◌}
 use lib.ListN.{length}
-use borrow.Author.Rules.{rules}
 use Rattle.state_table_main.proofs.blocks.Given as goal
 
 abbrev pub invariant-loop-turns : goal.invariant-loop-turns

@@ -1,7 +1,6 @@
 -- What is kept is within the line, so that this part of it is there.
 use native.Mathlib.Omega.{arith}
 use mathlib.Core.Path.{sym}
-use borrow.Author.Rules.{rules}
 use lib.Seq.{length-take-le}
 use Rattle.state_table_main.proofs.show_kept.Goals as goal
 

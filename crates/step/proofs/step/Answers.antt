@@ -1,5 +1,4 @@
 -- The table's places are put into memory, the step is done there, and what the memory means then is given back; refused, that is the table as it was.
-use borrow.Author.Rules.{rules}
 use Rattle.step.proofs.Whole.{whole_step, whole_refused}
 use Rattle.step.proofs.step.Goals as goal
 

@@ -1,5 +1,4 @@
 -- The first two checks refuse it, or the table is sound and the log as long as it says, which is all that the event's own function asks for.
-use borrow.Author.Rules.{rules}
 use mathlib.Core.Path.{refl, sym}
 use mathlib.Core.Bool.{true}
 use mathlib.Core.List.{[], ◌∷◌}

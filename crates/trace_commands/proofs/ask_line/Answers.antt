@@ -1,5 +1,4 @@
 -- Where both words can be read, the identifiers are what was read of them; else the line can't be read.
-use borrow.Author.Rules.{rules}
 use Rattle.trace_commands.proofs.Commands.{ask_read}
 use Rattle.trace_commands.proofs.ask_line.Goals as goal
 

@@ -1,5 +1,4 @@
 -- Where the word can be read, its identifier is what was read of it; where not, the line can't be read.
-use borrow.Author.Rules.{rules}
 use Rattle.trace_commands.proofs.Commands.{manager_read}
 use Rattle.trace_commands.proofs.of_manager.Goals as goal
 

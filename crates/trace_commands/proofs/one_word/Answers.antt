@@ -1,5 +1,4 @@
 -- The test is the definition's, at the bytes of its text.
-use borrow.Author.Rules.{rules}
 use mathlib.Core.Path.{sym, ◌∙◌}
 use Rattle.rules.specs.Trace.{text, words_read}
 use Rattle.trace_commands.proofs.one_word.Goals as goal

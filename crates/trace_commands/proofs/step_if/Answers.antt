@@ -1,5 +1,4 @@
 -- Where a part could not be read the definition's command is unreadable too, and where all could it is the step's.
-use borrow.Author.Rules.{rules}
 use Rattle.trace_commands.proofs.step_if.Goals as goal
 
 pub returns-then-readable : goal.returns-then-readable

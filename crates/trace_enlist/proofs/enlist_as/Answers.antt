@@ -1,5 +1,4 @@
 -- Where all three words can be read, the parts are what was read of them; else the line can't be read.
-use borrow.Author.Rules.{rules}
 use Rattle.trace_enlist.proofs.Enlists.{enlist_read}
 use Rattle.trace_enlist.proofs.enlist_as.Goals as goal
 

@@ -1,5 +1,4 @@
 -- A word is compared with the bytes of each text that the definition names, in its order, so that the branch that is taken is the definition's.
-use borrow.Author.Rules.{rules}
 use Rattle.rules.specs.Trace.{text, enlist_line_marked}
 use Rattle.trace_commands.proofs.Commands.{told}
 use Rattle.trace_enlist.proofs.enlist_line_marked.Goals as goal

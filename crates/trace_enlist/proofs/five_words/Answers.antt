@@ -1,5 +1,4 @@
 -- The test is the definition's, at the bytes of its text; the mark is the one that an absent word means.
-use borrow.Author.Rules.{rules}
 use Rattle.rules.specs.Trace.{text, words_read, enlist_line}
 use Rattle.trace_commands.proofs.Commands.{told}
 use Rattle.trace_enlist.proofs.five_words.Goals as goal

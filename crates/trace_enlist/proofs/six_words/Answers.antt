@@ -1,5 +1,4 @@
 -- The test is the definition's, at the bytes of its text.
-use borrow.Author.Rules.{rules}
 use Rattle.rules.specs.Trace.{text, words_read}
 use Rattle.trace_commands.proofs.Commands.{told}
 use Rattle.trace_enlist.proofs.six_words.Goals as goal

@@ -1,5 +1,4 @@
 -- A space in the rest makes a seventh word, and no command has one; without a space the rest is the sixth.
-use borrow.Author.Rules.{rules}
 use lib.ListN.{take}
 use mathlib.Core.List.{◌∷◌}
 use Rattle.rules.specs.Trace.{words_read}

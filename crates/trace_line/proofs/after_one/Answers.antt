@@ -1,5 +1,4 @@
 -- The words of the rest are its first word and those behind the space, or the rest itself if it has no space.
-use borrow.Author.Rules.{rules}
 use native.Mathlib.Omega.{arith}
 use lib.Seq.{length-take-le}
 use mathlib.Core.Path.{sym}

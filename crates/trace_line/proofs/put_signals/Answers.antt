@@ -1,8 +1,7 @@
 -- The signals that were written, and one more behind them, are the next signals written.
 use borrow.Author.Rules.{rules}
 use Rattle.lists.proofs.Loops.{long}
-use Prim.Native.Nat.{◌-◌}
-use Rattle.trace_line.proofs.Signals.{Sending, sending_start, sending_again, sending_done}
+use Rattle.trace_line.proofs.Signals.{sending_start, sending_again, sending_done}
 use Rattle.rules.specs.Signals.{no_signal}
 use Rattle.trace_line.proofs.put_signals.Goals as goal
 

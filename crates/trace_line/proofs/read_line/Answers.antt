@@ -1,5 +1,4 @@
 -- A line that is too long can't be read; else its words are its first and those behind the space, or the line itself.
-use borrow.Author.Rules.{rules}
 use borrow.Author.Tests.{le-leb, lt-leb}
 use native.Mathlib.Omega.{arith}
 use mathlib.Core.Path.{sym}

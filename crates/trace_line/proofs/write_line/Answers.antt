@@ -1,13 +1,11 @@
 -- The parts behind one another are the line, and each ends before the buffer does: 17 bytes at most for the three numbers, and 28 for each signal.
 use Prim.Native.Nat.{ℕ, ◌+◌, ◌≤◌}
 use native.Mathlib.Omega.{arith}
-use borrow.Author.Rules.{rules}
 use Rattle.lists.proofs.Loops.{long}
-use mathlib.Core.Path.{◌≡◌}
 use lib.ListN.{length}
 use Rattle.rules.specs.Sizes.{signals_most}
 use Rattle.rules.specs.Trace.{digits}
-use Rattle.trace_parts.specs.Puts.{digits_most, output_most}
+use Rattle.trace_parts.specs.Puts.{digits_most}
 use Rattle.trace_parts.proofs.Digits.{few_digits, most_digits}
 use Rattle.trace_line.proofs.Lines.{taken_most, line_written}
 use Rattle.trace_line.proofs.write_line.Goals as goal

@@ -1,6 +1,5 @@
 -- Each byte adds at most 255, so that fifteen cannot wrap.
 use Prim.Native.Nat.{◌≤◌, ◌-◌, ◌*◌}
-use borrow.Author.Rules.{rules}
 use Rattle.trace_line_main.proofs.leading.Given as goal
 
 abbrev pub invariant-loop-i : goal.invariant-loop-i

@@ -1,7 +1,6 @@
 -- The index only grows, and stops at the length.
 use Prim.Native.Nat.{◌≤◌, ◌-◌}
 use lib.ListN.{length}
-use borrow.Author.Rules.{rules}
 use Rattle.trace_line_main.proofs.line_end.Given as goal
 
 abbrev pub invariant-loop-i : goal.invariant-loop-i

@@ -3,7 +3,6 @@ use native.Mathlib.Omega.{arith}
 use mathlib.Core.Path.{ap, sym}
 use lib.ListN.{length}
 use lib.Seq.{length-sets, length-take-le}
-use borrow.Author.Rules.{rules}
 use Rattle.trace_line_main.proofs.out.Goals as goal
 
 pub slice_bounds-buffer-end : goal.slice_bounds-buffer-end

@@ -1,7 +1,6 @@
 -- Each turn goes past the end of a line, and at most one past the end of the input.
 use Prim.Native.Nat.{◌≤◌, ◌-◌, ◌+◌}
 use lib.ListN.{length}
-use borrow.Author.Rules.{rules}
 use Rattle.trace_line_main.proofs.show_lines.Given as goal
 
 abbrev pub invariant-loop-from : goal.invariant-loop-from

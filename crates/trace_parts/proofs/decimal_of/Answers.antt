@@ -1,8 +1,7 @@
 -- What is left of the number, in decimal, stands before the digits that were written, until one digit is left.
-use borrow.Author.Rules.{rules}
 use native.Mathlib.Omega.{arith}
 use mathlib.Core.Path.{refl}
-use Rattle.trace_parts.proofs.Digits.{Converting, convert_start, convert_again, convert_done}
+use Rattle.trace_parts.proofs.Digits.{convert_start, convert_again, convert_done}
 use Rattle.trace_parts.proofs.decimal_of.Goals as goal
 
 pub loop-m-init : goal.loop-m-init

@@ -1,5 +1,4 @@
 -- At each name the text and the spaces behind it are computed.
-use borrow.Author.Rules.{rules}
 use Rattle.rules.specs.Trace.{text, name_text}
 use Rattle.trace_parts.specs.Puts.{padded_name}
 use Rattle.trace_parts.proofs.padded_name.Goals as goal

@@ -1,7 +1,6 @@
 -- The first space ends the name, since no name has one.
 use native.Mathlib.Omega.{arith}
 use mathlib.Core.Path.{sym}
-use borrow.Author.Rules.{rules}
 use lib.Seq.{length-take-le}
 use Rattle.trace_parts.proofs.Puts.{name_most_lem, name_taken}
 use Rattle.trace_parts.proofs.put_name.Goals as goal

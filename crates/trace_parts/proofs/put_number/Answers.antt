@@ -1,5 +1,4 @@
 -- The digits are the bytes from the first that was written to the end of their array.
-use borrow.Author.Rules.{rules}
 use Rattle.trace_parts.proofs.Puts.{put_decimal}
 use Rattle.trace_parts.proofs.put_number.Goals as goal
 

@@ -1,5 +1,4 @@
 -- A space, a name of at most 16 bytes, a colon and a number of at most ten digits, one behind another.
-use borrow.Author.Rules.{rules}
 use native.Mathlib.Omega.{arith}
 use Rattle.rules.specs.Trace.{space, colon}
 use Rattle.trace_parts.specs.Puts.{signal_text}

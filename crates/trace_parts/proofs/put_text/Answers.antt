@@ -1,9 +1,6 @@
 -- What is left of the text, stored behind what was stored, gives the whole text at its place; a store leaves the buffer as long as it was.
-use Prim.Native.Nat.{◌-◌}
-use borrow.Author.Rules.{rules}
 use mathlib.Core.Path.{refl}
-use lib.ListN.{length}
-use Rattle.lists.proofs.Stores.{Stored, store_start, store_again}
+use Rattle.lists.proofs.Stores.{store_start, store_again}
 use Rattle.trace_parts.proofs.Puts.{put_stored}
 use Rattle.trace_parts.proofs.put_text.Goals as goal
 

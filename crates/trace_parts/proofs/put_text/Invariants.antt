@@ -1,10 +1,7 @@
 -- What is left of the text, stored behind what was stored, gives the whole text at its place; a store leaves the buffer as long as it was.
 use Prim.Native.Nat.{◌-◌}
-use borrow.Author.Rules.{rules}
-use mathlib.Core.Path.{refl}
 use lib.ListN.{length}
-use Rattle.lists.proofs.Stores.{Stored, store_start, store_again}
-use Rattle.trace_parts.proofs.Puts.{put_stored}
+use Rattle.lists.proofs.Stores.{Stored}
 use Rattle.trace_parts.proofs.put_text.Given as goal
 
 abbrev pub invariant-loop-i : goal.invariant-loop-i

@@ -1,6 +1,5 @@
 -- `trace_run::obey` meets its contract: the table is put into memory, obeyed on there, and taken out again.
 use Rattle.trace_run.proofs.Laws.{taken_obeys}
-use borrow.Author.Rules.{rules}
 use Rattle.trace_run.proofs.obey.Goals as goal
 
 pub obey_in-left-requires : goal.obey_in-left-requires

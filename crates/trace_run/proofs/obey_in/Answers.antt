@@ -3,7 +3,6 @@ use Rattle.rules.specs.Trace.{traced_of}
 use Rattle.trace_run.proofs.Laws.{unreadable_obeys}
 use Rattle.trace_run.proofs.Typed.{typed_command}
 use Rattle.trace_run.proofs.Known.{known_again}
-use borrow.Author.Rules.{rules}
 use Rattle.trace_run.proofs.obey_in.Goals as goal
 
 pub returns-in-Unreadable : goal.returns-in-Unreadable
@@ -25,8 +24,7 @@ pub returns-in-Step : goal.returns-in-Step
 unfolding traced_of
 returns-in-Step c =
     let line = c.read_line-command in
-    let s = c.obey_step.ensures in
-    (
+    let s = c.obey_step.ensures in (
       rw (← line.ensures, c.in-Step.is) s.0,
       known_again _ line.result.event _ (rw line.ensures (typed_command c.args.line.now)) c.requires.2 s.0 s.1,
     )

@@ -2,7 +2,6 @@
 use mathlib.Core.Path.{sym, ap, ◌∙◌}
 use Rattle.rules.specs.Sound.{sound_of}
 use Rattle.trace_run.proofs.Laws.{restart_obeys}
-use borrow.Author.Rules.{rules}
 use Rattle.trace_run.proofs.obey_restart.Goals as goal
 
 pub returns : goal.returns

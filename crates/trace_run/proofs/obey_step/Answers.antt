@@ -1,6 +1,5 @@
 -- The line is the answer that is written of the step's, and the step's contract says which that is.
 use Rattle.trace_run.proofs.Laws.{step_obeys}
-use borrow.Author.Rules.{rules}
 use Rattle.trace_run.proofs.obey_step.Goals as goal
 
 pub returns : goal.returns

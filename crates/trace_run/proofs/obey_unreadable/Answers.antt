@@ -1,5 +1,4 @@
 -- The definition, too, answers 16 with no signal and leaves table and log, so that the line that is written is its line.
-use borrow.Author.Rules.{rules}
 use Rattle.trace_run.proofs.obey_unreadable.Goals as goal
 
 pub returns : goal.returns

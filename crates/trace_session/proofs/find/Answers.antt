@@ -1,8 +1,6 @@
 -- The byte is found here, or one byte further on than what is left begins; and there is none in a part that has ended.
-use Prim.Native.Nat.{◌≤◌}
 use native.Mathlib.Omega.{arith}
-use mathlib.Core.Path.{◌≡◌, refl, sym, ap, ◌∙◌}
-use Rattle.trace_session.specs.Bytes.{index_of, slice}
+use mathlib.Core.Path.{◌≡◌}
 use Rattle.trace_session.proofs.Finding.{index_here, index_on, index_over}
 use Rattle.trace_session.proofs.find.Goals as goal
 

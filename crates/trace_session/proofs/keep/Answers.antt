@@ -1,7 +1,6 @@
 -- What is stored behind the line is as much of the new bytes as there is room for.
 use native.Mathlib.Omega.{arith}
 use lib.ListN.{length-take}
-use borrow.Author.Rules.{rules}
 use Rattle.trace_session.proofs.Memory.{keeps_room}
 use Rattle.trace_session.proofs.keep.Goals as goal
 

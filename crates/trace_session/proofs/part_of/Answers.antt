@@ -1,6 +1,5 @@
 -- Where the first newline stands is what `find` gives, and it is one exactly if that is before the end.
 use mathlib.Core.Path.{refl, sym}
-use borrow.Author.Rules.{rules}
 use borrow.Author.Tests.{lt-ltb, le-ltb}
 use Rattle.trace_session.proofs.part_of.Goals as goal
 

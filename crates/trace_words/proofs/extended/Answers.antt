@@ -1,5 +1,4 @@
 -- Each test on the way is one of the definition's, and the first that fails decides.
-use borrow.Author.Rules.{rules}
 use borrow.Author.Tests.{le-leb, lt-leb}
 use Rattle.trace_words.specs.Words.{extended_of}
 use Rattle.trace_words.proofs.extended.Goals as goal

@@ -1,11 +1,8 @@
 -- Words of another length differ; of the same length, equal first bytes leave the answer to the others.
 use Prim.Native.Nat.{◌-◌}
-use mathlib.Core.Path.{refl, sym}
-use borrow.Author.Rules.{rules}
 use lib.ListN.{length}
 use Rattle.rules.specs.Identifiers.{same_bytes}
-use Rattle.lists.proofs.Loops.{Paired, pair_start, pair_next, pair_stop, pair_done}
-use Rattle.trace_words.proofs.Words.{other_length}
+use Rattle.lists.proofs.Loops.{Paired}
 use Rattle.trace_words.proofs.is_word.Given as goal
 
 abbrev pub invariant-loop-i : goal.invariant-loop-i

@@ -1,5 +1,4 @@
 -- A word of one byte has no leading zero, and a longer one has it if its first byte is a zero.
-use borrow.Author.Rules.{rules}
 use Rattle.trace_words.proofs.Words.{no_word, one_digit, leading_zero, no_leading_zero}
 use mathlib.Core.Path.{◌∙◌}
 use Rattle.trace_words.proofs.numeral.Goals as goal

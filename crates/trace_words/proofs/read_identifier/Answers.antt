@@ -1,5 +1,4 @@
 -- The value of a word is at most 255 exactly if the word names an identifier, and its byte then stands last of 16.
-use borrow.Author.Rules.{rules}
 use Rattle.trace_words.proofs.Words.{identifier_read, identifier_unread}
 use Rattle.trace_words.proofs.read_identifier.Goals as goal
 

@@ -1,5 +1,4 @@
 -- The value of a word is at most the largest number exactly if the word is one.
-use borrow.Author.Rules.{rules}
 use Rattle.trace_words.proofs.Words.{number_read, number_unread}
 use Rattle.trace_words.proofs.read_number.Goals as goal
 

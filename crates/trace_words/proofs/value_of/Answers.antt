@@ -1,8 +1,5 @@
 -- What is left of the word extends the value so far to the value of the whole, and a value too large stays so.
-use Prim.Native.Nat.{◌-◌}
-use borrow.Author.Rules.{rules}
-use lib.ListN.{length}
-use Rattle.trace_words.proofs.Words.{Extended, extended_start, extended_again, extended_done}
+use Rattle.trace_words.proofs.Words.{extended_start, extended_again, extended_done}
 use Rattle.trace_words.proofs.value_of.Goals as goal
 
 pub loop-i-init : goal.loop-i-init

@@ -1,8 +1,7 @@
 -- What is left of the word extends the value so far to the value of the whole, and a value too large stays so.
 use Prim.Native.Nat.{◌-◌}
-use borrow.Author.Rules.{rules}
 use lib.ListN.{length}
-use Rattle.trace_words.proofs.Words.{Extended, extended_start, extended_again, extended_done}
+use Rattle.trace_words.proofs.Words.{Extended}
 use Rattle.trace_words.proofs.value_of.Given as goal
 
 abbrev pub invariant-loop-i : goal.invariant-loop-i

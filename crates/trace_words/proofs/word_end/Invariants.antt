@@ -1,11 +1,8 @@
 -- The bytes before i hold no space, so the first space of what is left, counted from i, is the line's.
 use Prim.Native.Nat.{◌+◌, ◌-◌}
-use mathlib.Core.Path.{refl}
-use native.Mathlib.Omega.{arith}
-use borrow.Author.Rules.{rules}
 use lib.ListN.{length}
 use Rattle.trace_words.specs.Words.{word_end}
-use Rattle.lists.proofs.Loops.{Looked, look_start, look_next, look_stop, look_done}
+use Rattle.lists.proofs.Loops.{Looked}
 use Rattle.trace_words.proofs.word_end.Given as goal
 
 abbrev pub invariant-loop-i : goal.invariant-loop-i

@@ -1,7 +1,6 @@
 -- The index stays within the word, and the word is no longer than the line.
 use Prim.Native.Nat.{◌≤◌, ◌-◌}
 use lib.ListN.{length}
-use borrow.Author.Rules.{rules}
 use Rattle.traces_main.proofs.begins.Given as goal
 
 abbrev pub invariant-loop-i : goal.invariant-loop-i

@@ -1,7 +1,6 @@
 -- `extended` stays within the memory at each digit.
 use Prim.Native.Nat.{◌≤◌, ◌-◌}
 use lib.ListN.{length}
-use borrow.Author.Rules.{rules}
 use Rattle.traces_main.proofs.number.Given as goal
 
 abbrev pub invariant-loop-i : goal.invariant-loop-i

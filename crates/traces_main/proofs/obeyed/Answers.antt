@@ -3,7 +3,6 @@ use native.Mathlib.Omega.{arith}
 use mathlib.Core.Path.{ap}
 use lib.ListN.{length, length-take}
 use lib.Seq.{length-sets}
-use borrow.Author.Rules.{rules}
 use Rattle.traces_main.proofs.obeyed.Goals as goal
 
 pub slice_bounds-obey-end-2 : goal.slice_bounds-obey-end-2

@@ -3,7 +3,6 @@ use native.Mathlib.Omega.{arith}
 use mathlib.Core.Path.{ap}
 use lib.ListN.{length, length-take}
 use lib.Seq.{length-sets}
-use borrow.Author.Rules.{rules}
 use Rattle.traces_main.proofs.print_restart.Goals as goal
 
 pub slice_bounds-buffer-end : goal.slice_bounds-buffer-end

@@ -1,7 +1,6 @@
 -- The log's capacity is within the memory, so that this part of it is there.
 use native.Mathlib.Omega.{arith}
 use lib.ListN.{length-take}
-use borrow.Author.Rules.{rules}
 use Rattle.traces_main.proofs.restarted.Goals as goal
 
 pub slice_bounds-restart-end-2 : goal.slice_bounds-restart-end-2

@@ -1,7 +1,6 @@
 -- Each turn goes on by one byte of the line.
 use Prim.Native.Nat.{◌≤◌, ◌-◌}
 use lib.ListN.{length}
-use borrow.Author.Rules.{rules}
 use Rattle.state_table_main.proofs.reader.numeral.Given as goal
 
 abbrev pub invariant-loop-i : goal.invariant-loop-i

@@ -1,6 +1,5 @@
 -- A counter goes up to the number of a table's places.
 use Prim.Native.Nat.{◌≤◌, ◌-◌}
-use borrow.Author.Rules.{rules}
 use Rattle.state_table_main.proofs.reader.read_places.Given as goal
 
 abbrev pub invariant-loop-k : goal.invariant-loop-k

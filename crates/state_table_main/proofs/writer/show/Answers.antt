@@ -1,7 +1,6 @@
 -- The end was tested against the output, so that this part of it is there.
 use native.Mathlib.Omega.{arith}
 use mathlib.Core.Path.{sym}
-use borrow.Author.Rules.{rules}
 use lib.Seq.{length-take-le}
 use Rattle.state_table_main.proofs.writer.show.Goals as goal
 
