@@ -36,7 +36,6 @@ more_stands {w} {more = more} k f c u p h =
 -- where the first newline from an index on stands, as `find` gives it
 module _ (block : List ℕ) (from end : ℕ) (found : end ≡ from + index_of newline (slice from (length block) block)) (within : from ≤ length block) where
   to_newline : end - from ≡ index_of newline (drop from block)
-  unfolding slice
   to_newline = omega (arith, rw take-length at found)
 
   after_rest : (w : Stand) → after_bytes w (part from end block) ≡ with_more w (part from end block)
