@@ -1,7 +1,6 @@
 -- Each turn goes on by one, and a record leaves the log as long as it was.
 use Prim.Native.Nat.{◌-◌}
 use mathlib.Core.Path.{◌≡◌}
-use borrow.Author.Rules.{rules}
 use lib.ListN.{length}
 use Rattle.restart_main.proofs.many.Given as goal
 

@@ -1,6 +1,5 @@
 -- Each turn goes on by one, up to the number of transactions.
 use Prim.Native.Nat.{◌≤◌, ◌-◌}
-use borrow.Author.Rules.{rules}
 use Rattle.restart_main.proofs.opened.Given as goal
 
 abbrev pub invariant-loop-t : goal.invariant-loop-t

@@ -1,6 +1,5 @@
 -- Each turn goes on by one, up to the last byte of the last record.
 use Prim.Native.Nat.{◌≤◌, ◌-◌}
-use borrow.Author.Rules.{rules}
 use Rattle.restart_main.proofs.torn.Given as goal
 
 abbrev pub invariant-loop-n : goal.invariant-loop-n

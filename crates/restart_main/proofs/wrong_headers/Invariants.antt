@@ -1,6 +1,5 @@
 -- Each turn goes on by one, so that the loop ends.
 use Prim.Native.Nat.{◌≤◌, ◌-◌}
-use borrow.Author.Rules.{rules}
 use Rattle.restart_main.proofs.wrong_headers.Given as goal
 
 abbrev pub invariant-loop-i : goal.invariant-loop-i

@@ -1,5 +1,4 @@
 -- A line of which something is kept is answered, and without one nothing is left to do.
-use borrow.Author.Rules.{rules}
 use Rattle.trace.proofs.Finished.{finish_nothing, finish_last}
 use Rattle.trace.proofs.finish.Goals as goal
 

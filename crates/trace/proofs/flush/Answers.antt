@@ -1,7 +1,6 @@
 -- What waits is within the output's memory, and only the count of it and the output's answer are set.
 use native.Mathlib.Omega.{arith}
 use lib.ListN.{length-take}
-use borrow.Author.Rules.{rules}
 use Rattle.trace.proofs.Turns.{flushed_writes}
 use Rattle.trace.proofs.flush.Goals as goal
 

@@ -1,6 +1,5 @@
 -- The memory means the restart's table, so that what is tested of the table holds of the memory.
 use mathlib.Core.Path.{refl, sym, ap, ◌∙◌}
-use borrow.Author.Rules.{rules}
 use Rattle.rules.specs.Sound.{sound_of}
 use Rattle.trace.proofs.started.Goals as goal
 

@@ -1,10 +1,8 @@
 -- Each turn takes some of the block and writes what it printed, so that the next turn has room.
-use Prim.Native.Nat.{◌-◌}
 use native.Mathlib.Omega.{arith}
 use mathlib.Core.Path.{refl, sym, ◌∙◌}
-use lib.ListN.{length}
 use borrow.Author.Rules.{rules}
-use Rattle.trace.proofs.Turns.{Running, running_start, running_again, running_done, running_failed}
+use Rattle.trace.proofs.Turns.{running_start, running_again, running_done, running_failed}
 use Rattle.trace.proofs.take_block.Goals as goal
 
 pub loop-s-init : goal.loop-s-init

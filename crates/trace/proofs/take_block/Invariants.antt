@@ -1,10 +1,7 @@
 -- Each turn takes some of the block and writes what it printed, so that the next turn has room.
 use Prim.Native.Nat.{◌-◌}
-use native.Mathlib.Omega.{arith}
-use mathlib.Core.Path.{refl, sym, ◌∙◌}
 use lib.ListN.{length}
-use borrow.Author.Rules.{rules}
-use Rattle.trace.proofs.Turns.{Running, running_start, running_again, running_done, running_failed}
+use Rattle.trace.proofs.Turns.{Running}
 use Rattle.trace.proofs.take_block.Given as goal
 
 abbrev pub invariant-loop-s : goal.invariant-loop-s

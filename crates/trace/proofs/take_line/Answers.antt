@@ -1,5 +1,4 @@
 -- What stands before the newline lengthens the line, and the newline has it answered; without one there is only more of the line.
-use borrow.Author.Rules.{rules}
 use Rattle.trace.proofs.Taken.{more_ready, line_taken, rest_taken}
 use Rattle.trace.proofs.take_line.Goals as goal
 

@@ -1,9 +1,7 @@
 -- Each turn takes some of the block. The loop ends where the block does, or where no room is left, which is not before the first turn.
 use Prim.Native.Nat.{◌-◌}
-use native.Mathlib.Omega.{arith}
 use lib.ListN.{length}
-use borrow.Author.Rules.{rules}
-use Rattle.trace.proofs.Turns.{Taking, taking_start, taking_again, taking_done, enough_room, no_room}
+use Rattle.trace.proofs.Turns.{Taking}
 use Rattle.trace.proofs.take_lines.Given as goal
 
 abbrev pub invariant-loop-s : goal.invariant-loop-s

@@ -1,6 +1,5 @@
 -- Each turn goes on by one, and no sum grows beyond its bound.
 use Prim.Native.Nat.{◌≤◌, ◌-◌}
-use borrow.Author.Rules.{rules}
 use Rattle.restart_main.proofs.shown.changed.Given as goal
 
 abbrev pub invariant-loop-i : goal.invariant-loop-i

@@ -1,6 +1,5 @@
 -- Each turn goes on by one, up to the last place.
 use Prim.Native.Nat.{◌≤◌, ◌-◌}
-use borrow.Author.Rules.{rules}
 use Rattle.restart_main.proofs.shown.held.Given as goal
 
 abbrev pub invariant-loop-i : goal.invariant-loop-i

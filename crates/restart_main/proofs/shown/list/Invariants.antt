@@ -1,6 +1,5 @@
 -- Each turn goes on by one, up to the number of rows.
 use Prim.Native.Nat.{◌≤◌, ◌-◌}
-use borrow.Author.Rules.{rules}
 use Rattle.restart_main.proofs.shown.list.Given as goal
 
 abbrev pub invariant-loop-k : goal.invariant-loop-k
