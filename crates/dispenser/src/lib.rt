@@ -1,4 +1,4 @@
-// The number dispenser, a small record the host lends: a covered step by value, and one thin function over it that moves the record on in place.
+// The number dispenser, a small record the host lends: a step by value, and one thin function over it that moves the record on in place.
 
 #![tactic(auto)]
 

@@ -133,7 +133,8 @@ pub fn put_enlistment(rows: &mut [[u8; 24]; 128], p: u8, e: Enlistment)
         return;
     }
     let k = (p - 1) as usize;
-    if k < sizes::ENLISTMENTS {
+    let there = k < sizes::ENLISTMENTS;
+    if there {
         let row = rows::row_of(e);
         rows[k] = row;
     }

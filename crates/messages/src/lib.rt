@@ -62,9 +62,9 @@ fn no_message() -> Message
     }
 }
 
-// Laws of rules/proofs/MessageLaws.antt: an accepted message writes back to its own bytes (accepted-writes-back); what is accepted is
-// what the writer writes, and nothing else (accepted-is-written, written-is-accepted); any other bytes give 14 and the all-zero message
-// (read-refused). Two answers that meet the promise coincide: proofs/Coincide.antt, readings-coincide.
+// Laws of rules/proofs/MessageLaws.antt: an accepted message writes back to its own bytes (accepted_writes_back); what is accepted is
+// what the writer writes, and nothing else (accepted_is_written, written_is_accepted); any other bytes give 14 and the all-zero message
+// (read_refused). Two answers that meet the promise coincide: proofs/Coincide.antt, readings_coincide.
 pub fn read_message(bytes: &[u8]) -> Read
     ensures { IsReading bytes.now result }
 {
@@ -119,10 +119,10 @@ fn put_payload(memory: &mut [u8], message: Message, payload: u32)
     }
 }
 
-// Laws of rules/proofs/MessageLaws.antt: a written message reads back to itself (written-reads-back); what is accepted has the room
-// (accepted-has-room) and is what the reader gives, and nothing else is accepted (accepted-is-read, read-is-accepted); any other call
-// gives 14, length 0 and the memory as it was (write-refused). Two answers that meet the promise coincide: proofs/Coincide.antt,
-// writings-coincide.
+// Laws of rules/proofs/MessageLaws.antt: a written message reads back to itself (written_reads_back); what is accepted has the room
+// (accepted_has_room) and is what the reader gives, and nothing else is accepted (accepted_is_read, read_is_accepted); any other call
+// gives 14, length 0 and the memory as it was (write_refused). Two answers that meet the promise coincide: proofs/Coincide.antt,
+// writings_coincide.
 pub fn write_message(message: Message, memory: &mut [u8]) -> Written
     ensures { IsWriting message memory.old result memory.new }
 {

@@ -37,7 +37,7 @@ taken_most k ss =
     let n : length (take k ss) ≤ k = simp length-take (omega arith) in
     omega (arith, signals_most_lem (take k ss))
 
--- every output line, with its newline, fits into outputMost bytes
+-- every output line, with its newline, fits into output_most bytes
 pub output_fits : (why used : ℕ) (signals : Signals) → why < 256 → length signals.items ≡ signals_most → length (output_line why used signals) ≤ output_most
 unfolding output_line output_of
 output_fits why used signals h l =
@@ -84,7 +84,7 @@ module _ (signals : Signals) (long : length signals.items ≡ signals_most) wher
       let f : length (output_line why used signals) ≤ output_most = output_fits why used signals h long in
       record { sized = omega arith; bytes = l.same; within = omega arith }
 
--- in a buffer of outputMost bytes: the line, and then what stood behind it
+-- in a buffer of output_most bytes: the line, and then what stood behind it
 pub line_first : (why used : ℕ) (signals : Signals) (before : List ℕ) → why < 256 → length signals.items ≡ signals_most → length before ≡ output_most
     → sets before 0 (output_line why used signals) ≡ output_line why used signals ++ drop (length (output_line why used signals)) before
 line_first why used signals before h l e =

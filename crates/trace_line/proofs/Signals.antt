@@ -17,7 +17,7 @@ unfolding signal_texts signal_text
 one_more [] s = append-nil _
 one_more (x ∷ ss) s = rw (one_more ss s, append_assoc)
 
--- a loop that writes the first n items, each in at most signalMost bytes, and has written i of them
+-- a loop that writes the first n items, each in at most signal_most bytes, and has written i of them
 pub record Sending (n : ℕ) (items : List Signal) (before : List ℕ) (from : ℕ) (buffer : List ℕ) (at i : ℕ) : Type 0 where
   pub within : i ≤ n
   pub long : length items ≡ signals_most

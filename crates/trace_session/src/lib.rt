@@ -55,7 +55,7 @@ pub fn keep(line: &mut [u8], kept: usize, more: &[u8]) -> usize
 }
 
 // Where the byte first stands in that part of the block, and the part's end if it doesn't stand there.
-pub fn find(block: &[u8], from: usize, to: usize, byte: u8) -> usize
+fn find(block: &[u8], from: usize, to: usize, byte: u8) -> usize
     requires { (from ≤ to) × (to ≤ length block.now) }
     ensures { (result ≡ from + index_of byte (slice from to block.now)) × (result ≤ to) }
 {

@@ -119,7 +119,8 @@ pub fn read_number(w: &[u8]) -> Number
     ensures { result ≡ number_of w.now }
 {
     let n = numeral(w);
-    if n <= LARGEST {
+    let fits = n <= LARGEST;
+    if fits {
         Number {
             readable: true,
             value: n as u32,

@@ -12,7 +12,7 @@ use trace_line::OUTPUT;
 
 const STDOUT_FILENO: i32 = 1;
 
-// As much of a story is read.
+// As much of a story is obeyed.
 const LARGEST: usize = 65536;
 
 const MEMORY: usize = 4096;
@@ -157,7 +157,8 @@ fn run(text: &[u8]) {
     };
     let mut at: usize = 0;
     while at < text.len() {
-        let end = trace_session::find(text, at, text.len(), b'\n');
+        let part = trace_session::part_of(text, at);
+        let end = part.end;
         let next = told(s, &text[at..end], &mut memory);
         s = next;
         at = end + 1;

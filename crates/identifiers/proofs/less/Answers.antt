@@ -1,4 +1,4 @@
--- The two go along together: what lessBytes says of what is left, it says of the whole.
+-- The two go along together: what less_bytes says of what is left, it says of the whole.
 use mathlib.Core.Path.{refl}
 use borrow.Author.Rules.{rules}
 use Rattle.lists.proofs.Loops.{pair_start, pair_next, pair_stop, pair_done}

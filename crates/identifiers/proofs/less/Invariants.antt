@@ -1,4 +1,4 @@
--- The two go along together: what lessBytes says of what is left, it says of the whole.
+-- The two go along together: what less_bytes says of what is left, it says of the whole.
 use Prim.Native.Nat.{◌-◌}
 use Rattle.lists.proofs.Loops.{Paired}
 use Rattle.rules.specs.Identifiers.{less_bytes}

@@ -1,4 +1,4 @@
--- The two go along together: what sameBytes says of what is left, it says of the whole.
+-- The two go along together: what same_bytes says of what is left, it says of the whole.
 use Prim.Native.Nat.{◌-◌}
 use Rattle.lists.proofs.Loops.{Paired}
 use Rattle.rules.specs.Identifiers.{same_bytes}

@@ -14,10 +14,10 @@ use Rattle.lent_places.proofs.put_enlistment.Goals as goal
 pub returns-then-p-eq0 : goal.returns-then-p-eq0
 returns-then-p-eq0 c = (c.requires, rw (change_is (λ y. c.args.e) c.args.p no_enlistment, eq-eqb _ _ c.if-p-eq0.true))
 
-pub returns-then-k-lt-ENLISTMENTS : goal.returns-then-k-lt-ENLISTMENTS
-returns-then-k-lt-ENLISTMENTS c = (simp length-set c.requires, rw (change_is (λ y. c.args.e) c.args.p no_enlistment, ne_eqb _ _ c.if-p-eq0.false, map_set, c.row_of-row.ensures))
+pub returns-then-there : goal.returns-then-there
+returns-then-there c = (simp length-set c.requires, rw (change_is (λ y. c.args.e) c.args.p no_enlistment, ne_eqb _ _ c.if-p-eq0.false, map_set, c.row_of-row.ensures))
 
-pub returns-else-k-lt-ENLISTMENTS : goal.returns-else-k-lt-ENLISTMENTS
-returns-else-k-lt-ENLISTMENTS c =
+pub returns-else-there : goal.returns-else-there
+returns-else-there c =
     let rows = c.args.rows.now in
-    (c.requires, rw (change_is (λ y. c.args.e) c.args.p no_enlistment, ne_eqb _ _ c.if-p-eq0.false, set_out (map enlistment_in rows) (c.args.p - 1) c.args.e (omega (arith, length-map rows enlistment_in, c.requires, c.if-k-lt-ENLISTMENTS.false))))
+    (c.requires, rw (change_is (λ y. c.args.e) c.args.p no_enlistment, ne_eqb _ _ c.if-p-eq0.false, set_out (map enlistment_in rows) (c.args.p - 1) c.args.e (omega (arith, length-map rows enlistment_in, c.requires, c.if-there.false))))

@@ -2,8 +2,8 @@
 use Rattle.trace_words.proofs.Words.{number_read, number_unread}
 use Rattle.trace_words.proofs.read_number.Goals as goal
 
-pub returns-then-n-le-LARGEST : goal.returns-then-n-le-LARGEST
-returns-then-n-le-LARGEST c = number_read c.args.w.now c.numeral-n.ensures c.if-n-le-LARGEST.true
+pub returns-then-fits : goal.returns-then-fits
+returns-then-fits c = number_read c.args.w.now c.numeral-n.ensures c.if-fits.true
 
-pub returns-else-n-le-LARGEST : goal.returns-else-n-le-LARGEST
-returns-else-n-le-LARGEST c = number_unread c.args.w.now c.numeral-n.ensures c.if-n-le-LARGEST.false
+pub returns-else-fits : goal.returns-else-fits
+returns-else-fits c = number_unread c.args.w.now c.numeral-n.ensures c.if-fits.false
