@@ -7,13 +7,15 @@ ghost use Rattle.std.specs.Prelude.{◌≡◌, ◌+◌, ◌≤◌, length};
 ghost use Rattle.rules.specs.Trace.{trace_capacity};
 
 use rules::{Name, Signal, Signals, Table, sizes};
-use std::{env, fs};
+use std::env;
+use std::fs::File;
+use std::io::Read;
 use trace_line::OUTPUT;
 
 const STDOUT_FILENO: i32 = 1;
 
-// As much of a story is obeyed.
-const LARGEST: usize = 65536;
+// As much of a story is read.
+const LARGEST: u64 = 65536;
 
 const MEMORY: usize = 4096;
 
@@ -166,17 +168,13 @@ fn run(text: &[u8]) {
 }
 
 fn run_file(rt: &HostRuntime, name: &str) -> std::io::Result<()> {
-    let text = fs::read(rt, name)?;
-    let bytes = text.as_slice();
-    let size = if bytes.len() < LARGEST {
-        bytes.len()
-    } else {
-        LARGEST
-    };
+    let file = File::open(rt, name)?;
+    let mut text = Vec::new(rt.alloc());
+    file.take(LARGEST).read_to_end(&mut text)?;
     io::write_all(STDOUT_FILENO, b"# ");
     io::write_all(STDOUT_FILENO, name.as_bytes());
     io::write_all(STDOUT_FILENO, b"\n");
-    run(&bytes[..size]);
+    run(text.as_slice());
     Ok(())
 }
 
