@@ -144,18 +144,6 @@ fn told(case: u64, r: Restarted, different: u64) {
     say(b"\n");
 }
 
-// As much of it as there is room for.
-fn copy(from: &[u8], to: &mut [u8]) {
-    let mut i: usize = 0;
-    while i < from.len() {
-        if to.len() <= i {
-            return;
-        }
-        to[i] = from[i];
-        i += 1;
-    }
-}
-
 // Behind the words that say which it is.
 pub fn outcome(log: &mut [u8], case: u64, capacity: usize, stored: usize) {
     if log.len() < capacity {
@@ -165,7 +153,7 @@ pub fn outcome(log: &mut [u8], case: u64, capacity: usize, stored: usize) {
         return;
     }
     let mut kept = [0u8; 65537];
-    copy(log, &mut kept);
+    kept[..log.len()].copy_from_slice(log);
     let r = restart::restart(&mut log[..capacity], stored);
     let different = changed(&kept, log, capacity);
     told(case, r, different);

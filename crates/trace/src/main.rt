@@ -2,7 +2,7 @@
 
 #![tactic(auto)]
 
-ghost use Rattle.std.specs.Prelude.{◌≡◌, ◌≤◌, length};
+ghost use Rattle.std.specs.Prelude.{◌≡◌, ◌≤◌, MatchResult, length};
 ghost use Rattle.rules.specs.Sizes.{transaction_places, enlistment_places};
 ghost use Rattle.trace.specs.Sessions.{Fits, Ready, Answers, Takes, Writes, TakesAll, Finishes, Starts};
 
@@ -175,14 +175,21 @@ fn started(heads: &mut [[u8; 17]; 32], rows: &mut [[u8; 24]; 128], log: &mut [u8
     }
 }
 
-// How many bytes came; none at the end of the input, and where it can't be read.
-fn next_block(input: &mut Stdin, block: &mut [u8]) -> usize
-    ensures { result ≤ length block.new }
+// How many bytes a read gave; none where it failed, as at the end of the input.
+fn count_of(got: std::io::Result<usize>) -> usize
+    ensures { MatchResult got (λ n. result ≡ n) (λ e. result ≡ 0) }
 {
-    match input.read(block) {
+    match got {
         Ok(n) => n,
         Err(_) => 0,
     }
+}
+
+fn next_block(input: &mut Stdin, block: &mut [u8]) -> usize
+    ensures { result ≤ length block.new }
+{
+    let got = input.read(block);
+    count_of(got)
 }
 
 fn main(rt: HostRuntime) {
