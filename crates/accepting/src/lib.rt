@@ -12,7 +12,6 @@ ghost use Rattle.endings.specs.Gives.{Gives, Ready};
 
 use endings::Accepted;
 use holdings::Holding;
-use passes::Change;
 use rules::{
     Act, Enlistment, FollowUp, Kind, Mark, Name, Reaction, RmId, Signals, enlistment_state, kinds,
     transaction_state,
@@ -21,13 +20,7 @@ use rules::{
 fn is_zero_at_once(kind: Kind, state: u8) -> bool
     ensures { result ≡ zero_at_once kind state }
 {
-    let k = reactions::kind_of(kind);
-    let phase_zero = k == kinds::PHASE_ZERO;
-    if phase_zero {
-        state == transaction_state::PHASE_ZERO
-    } else {
-        false
-    }
+    u8::from(kind) == kinds::PHASE_ZERO && state == transaction_state::PHASE_ZERO
 }
 
 #[derive(Clone, Copy)]
@@ -40,36 +33,21 @@ pub struct Enlisted {
 pub fn entry(p: u8, state: u8, n: u32, rm: [u8; 16], kind: Kind, mark: Mark) -> Enlisted
     ensures { (result.enlistment ≡ new_enlistment p state n rm kind mark) × (result.signals ≡ row_of (cond (zero_at_once kind state) (signal name.Zero n ∷ []) [])) }
 {
-    let at_once = is_zero_at_once(kind, state);
-    let k = reactions::kind_of(kind);
-    let m = reactions::mark_of(kind, mark);
-    if at_once {
-        let e = Enlistment {
+    let (first, signals) = if is_zero_at_once(kind, state) {
+        (enlistment_state::ZERO, signals::to_one(Name::Zero, n))
+    } else {
+        (enlistment_state::ACTIVE, signals::to_none())
+    };
+    Enlisted {
+        enlistment: Enlistment {
             holder: p,
             rm: RmId(rm),
             number: n,
-            kind: k,
-            mark: m,
-            state: enlistment_state::ZERO,
-        };
-        let signals = signals::to_one(Name::Zero, n);
-        return Enlisted {
-            enlistment: e,
-            signals: signals,
-        };
-    }
-    let e = Enlistment {
-        holder: p,
-        rm: RmId(rm),
-        number: n,
-        kind: k,
-        mark: m,
-        state: enlistment_state::ACTIVE,
-    };
-    let signals = signals::to_none();
-    Enlisted {
-        enlistment: e,
-        signals: signals,
+            kind: u8::from(kind),
+            mark: reactions::mark_of(kind, mark),
+            state: first,
+        },
+        signals,
     }
 }
 
@@ -77,32 +55,31 @@ fn phase_one_if_ready(h: Holding, log: &mut [u8]) -> Accepted
     requires { Ready h }
     ensures { Gives h.place (follow then.StartPhaseOne h.place (alone h) log.old) result log.new }
 {
-    let c = holdings::count(h);
-    let waits = c.phase_zero != 0;
-    if waits {
-        return endings::quietly(h);
+    let census = holdings::count(h);
+    if census.phase_zero == 0 {
+        deciding::start_phase_one(h, log)
+    } else {
+        endings::quietly(h)
     }
-    deciding::start_phase_one(h, log)
 }
 
 fn decide_if_ready(h: Holding, log: &mut [u8]) -> Accepted
     requires { Ready h }
     ensures { Gives h.place (follow then.Decide h.place (alone h) log.old) result log.new }
 {
-    let c = holdings::count(h);
-    let waits = c.preparing != 0;
-    if waits {
-        return endings::quietly(h);
+    let census = holdings::count(h);
+    if census.preparing == 0 {
+        deciding::decide(h, log)
+    } else {
+        endings::quietly(h)
     }
-    deciding::decide(h, log)
 }
 
 fn end_quietly(h: Holding, log: &mut [u8]) -> Accepted
     requires { Ready h }
     ensures { Gives h.place (follow then.End h.place (alone h) log.old) result log.new }
 {
-    let after = endings::end_if_done(h, log);
-    endings::quietly(after)
+    endings::quietly(endings::end_if_done(h, log))
 }
 
 fn follow(f: FollowUp, h: Holding, log: &mut [u8]) -> Accepted
@@ -126,11 +103,11 @@ fn react(r: Reaction, n: u32, h: Holding, log: &mut [u8]) -> Accepted
     match r {
         Reaction::Refused => endings::quietly(h),
         Reaction::Freed(f) => {
-            let after = holdings::change(h, Change::FreedNumber(n));
+            let after = holdings::change(h, |e| passes::freed_number(e, n));
             follow(f, after, log)
         }
         Reaction::Becomes(state, f) => {
-            let after = holdings::change(h, Change::NumberBecomes(n, state));
+            let after = holdings::change(h, |e| passes::number_becomes(e, n, state));
             follow(f, after, log)
         }
     }
@@ -141,8 +118,7 @@ pub fn reacted(n: u32, act: Act, kind: u8, state: u8, h: Holding, log: &mut [u8]
     requires { Ready h }
     ensures { Gives h.place (react (reaction_of kind state act) h.place n (alone h) log.old) result log.new }
 {
-    let r = reactions::reaction(kind, state, act);
-    react(r, n, h, log)
+    react(reactions::reaction(kind, state, act), n, h, log)
 }
 
 pub fn ask(h: Holding, rm: [u8; 16]) -> Accepted
@@ -150,35 +126,18 @@ pub fn ask(h: Holding, rm: [u8; 16]) -> Accepted
     ensures { (log : List ℕ) → Gives h.place (ask_of h.place rm (alone h) log) result log }
 {
     let e = managers::undone(h, rm);
-    let x = h.transaction;
-    let unknown = x.state == 0;
-    let aborting = x.state == transaction_state::ABORTING;
-    let decided = x.state == transaction_state::COMMITTING;
-    if unknown {
-        let signals = signals::to_one(Name::AnswerAborted, 0);
-        return Accepted {
+    match h.transaction.state {
+        0 | transaction_state::ABORTING => Accepted {
             holding: h,
-            signals: signals,
-        };
-    }
-    if aborting {
-        let signals = signals::to_one(Name::AnswerAborted, 0);
-        return Accepted {
+            signals: signals::to_one(Name::AnswerAborted, 0),
+        },
+        transaction_state::COMMITTING => Accepted {
+            holding: managers::tell_again(h, rm),
+            signals: signals::to_one(Name::AnswerCommitted, e.number),
+        },
+        _ => Accepted {
             holding: h,
-            signals: signals,
-        };
-    }
-    if decided {
-        let after = managers::tell_again(h, rm);
-        let signals = signals::to_one(Name::AnswerCommitted, e.number);
-        return Accepted {
-            holding: after,
-            signals: signals,
-        };
-    }
-    let signals = signals::to_one(Name::AnswerNotYet, e.number);
-    Accepted {
-        holding: h,
-        signals: signals,
+            signals: signals::to_one(Name::AnswerNotYet, e.number),
+        },
     }
 }

@@ -7,17 +7,15 @@ use lib.ListN.{take}
 use Rattle.rules.specs.declared.Table.{Table}
 use Rattle.rules.specs.declared.Event.{Event}
 use Rattle.rules.specs.declared.Signals.{Signals}
-use Rattle.rules.specs.declared.Stepped.{Stepped}
 use Rattle.rules.specs.declared.Restarted.{Restarted}
 use Rattle.rules.specs.Sizes.{signals_most}
 use Rattle.rules.specs.Signals.{row_of}
-use Rattle.rules.specs.Step.{Step, step_of, IsStep}
+use Rattle.rules.specs.Step.{Step, StepAnswer, step_of, stepped_of, IsStep}
 use Rattle.rules.specs.Restart.{Restart, restart_of, IsRestart}
 use Rattle.rules.proofs.Preserved.{step_few_signals}
 use Rattle.rules.proofs.Count.{pad_take}
 use Rattle.rows.specs.Memory.{table_in}
-use Rattle.entering.specs.declared.Answer.{Answer}
-use Rattle.entering.specs.StepIn.{IsStepIn}
+use Rattle.entering.specs.StepIn.{Answered, answered, IsStepIn}
 use Rattle.safety.specs.World.{World, after_step, after_restart}
 use Rattle.safety.specs.Host.{careful}
 use Rattle.safety.specs.Run.{Run}
@@ -25,7 +23,7 @@ use Rattle.safety.specs.Demand3.{Demand3, Safe}
 use Rattle.safety.proofs.Safety.{safety}
 use Rattle.agreement.specs.Calls.{stepped_to, stepped_in, restarted_to, Calls}
 
-pub step_agrees : (tb : Table) (e : Event) (log : List ℕ) {r : Stepped} {after : List ℕ} → IsStep tb e log r after → stepped_to r after ≡ step_of tb e log
+pub step_agrees : (tb : Table) (e : Event) (log : List ℕ) {r : StepAnswer} {after : List ℕ} → IsStep tb e log r after → stepped_to r after ≡ step_of tb e log
 unfolding row_of
 step_agrees tb e log (p, q) = rw (p, q) (λ i. record {
   refusal = (step_of tb e log).refusal;
@@ -34,7 +32,7 @@ step_agrees tb e log (p, q) = rw (p, q) (λ i. record {
   log = (step_of tb e log).log;
 })
 
-pub step_in_agrees : (tb : Table) (e : Event) (log : List ℕ) {r : Answer} {heads rows : List (List ℕ)} {after : List ℕ} → IsStepIn tb e log r heads rows after
+pub step_in_agrees : (tb : Table) (e : Event) (log : List ℕ) {r : Answered} {heads rows : List (List ℕ)} {after : List ℕ} → IsStepIn tb e log r heads rows after
     → stepped_in tb.capacity r heads rows after ≡ step_of tb e log
 unfolding row_of
 step_in_agrees tb e log p =
@@ -46,10 +44,10 @@ restart_agrees log stored (p, q) = rw (p, q) refl
 
 pub calls_run : {w : World} → Calls w → Run careful w
 calls_run Calls.start = Run.start
-calls_run (Calls.step {w} c e tb log h {r} {after} m f) =
+calls_run (Calls.step {w} c e tb log h r m f) =
     subst (λ (s : Step). Run careful (after_step w tb e s)) (sym (step_agrees tb e log m))
     (Run.step (calls_run c) e tb log h (λ a. f (ap (λ (s : Step). s.refusal) (step_agrees tb e log m) ∙ a)))
-calls_run (Calls.step_in {w} c e heads rows capacity used log h m f) =
+calls_run (Calls.step_in {w} c e heads rows capacity used log h r m f) =
     let tb = table_in heads rows capacity used in
     subst (λ (s : Step). Run careful (after_step w tb e s)) (sym (step_in_agrees tb e log m))
     (Run.step (calls_run c) e tb log h (λ a. f (ap (λ (s : Step). s.refusal) (step_in_agrees tb e log m) ∙ a)))

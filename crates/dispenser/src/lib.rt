@@ -2,34 +2,29 @@
 
 #![tactic(auto)]
 
-ghost use Rattle.std.specs.Prelude.{◌≡◌, cond, ltb};
+ghost use Rattle.std.specs.Prelude.{◌≡◌};
 ghost use Rattle.rules.specs.Dispenser.{number_after, largest_in, dispenser_of, taken_of};
 
-use rules::{Dispenser, Table, Taken, sizes};
+use rules::{Dispenser, Table, Taken};
 
-// The number that follows, 0 behind the largest.
+// The number that follows, 0 behind the largest, which is the largest of 32 bits.
 fn number_after(n: u32) -> u32
     ensures { result ≡ number_after n }
 {
-    if sizes::LARGEST_NUMBER <= n { 0 } else { n + 1 }
+    n.checked_add(1).unwrap_or(0)
 }
 
 // The number given, and the dispenser that goes on behind it; one that gave the largest gives 0 and stays.
+// By value, since the forms of document 01 ask for a thin function in place over such a step.
+#[tactic(auto, unfolding(rules::specs::Dispenser::taken_of))]
 pub fn take_step(d: Dispenser) -> Taken
     ensures { result ≡ taken_of d }
 {
     let n = d.next;
-    let spent = n == 0;
-    if spent {
-        return Taken {
-            number: n,
-            dispenser: Dispenser { next: 0 },
-        };
-    }
-    let next = number_after(n);
+    let next = if n == 0 { 0 } else { number_after(n) };
     Taken {
         number: n,
-        dispenser: Dispenser { next: next },
+        dispenser: Dispenser { next },
     }
 }
 
@@ -42,34 +37,25 @@ pub fn take_number(d: &mut Dispenser) -> u32
     t.number
 }
 
-fn larger(most: u32, n: u32) -> u32
-    ensures { result ≡ cond (ltb most n) n most }
-{
-    let more = most < n;
-    if more { n } else { most }
-}
-
-// From the last place to the first, as the definition goes.
+// Of all places, the empty ones too.
 fn largest(table: Table) -> u32
     ensures { result ≡ largest_in table.enlistments }
 {
-    let mut i: usize = sizes::ENLISTMENTS;
-    let mut most: u32 = 0;
-    while 0 < i {
-        i -= 1;
-        let e = table.enlistments[i];
-        let n = e.number;
-        let next = larger(most, n);
-        most = next;
-    }
-    most
+    table
+        .enlistments
+        .iter()
+        .map(|e| e.number)
+        .max()
+        .unwrap_or(0)
 }
 
 // After a restart, from its table, which holds the entries of the open records.
+#[tactic(auto, unfolding(rules::specs::Dispenser::dispenser_of))]
 pub fn dispenser_after(table: Table) -> Dispenser
     ensures { result ≡ dispenser_of table }
 {
     let most = largest(table);
-    let next = number_after(most);
-    Dispenser { next: next }
+    Dispenser {
+        next: number_after(most),
+    }
 }

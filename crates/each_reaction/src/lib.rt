@@ -13,8 +13,7 @@ use rules::{FollowUp, Name, Reaction, Reply, Vote, enlistment_state};
 pub fn to_zero_done(state: u8) -> Reaction
     ensures { result ≡ cond (eqb state enlistment.zero) (reaction.Freed then.StartPhaseOne) reaction.Refused }
 {
-    let zero = state == enlistment_state::ZERO;
-    if zero {
+    if state == enlistment_state::ZERO {
         return Reaction::Freed(FollowUp::StartPhaseOne);
     }
     Reaction::Refused
@@ -33,8 +32,7 @@ fn to_vote(vote: Vote) -> Reaction
 pub fn to_vote_in(state: u8, vote: Vote) -> Reaction
     ensures { result ≡ cond (eqb state enlistment.preparing) (to_vote vote) reaction.Refused }
 {
-    let preparing = state == enlistment_state::PREPARING;
-    if preparing {
+    if state == enlistment_state::PREPARING {
         return to_vote(vote);
     }
     Reaction::Refused
@@ -53,10 +51,8 @@ fn to_reply(reply: Reply) -> Name
 pub fn to_reply_in(state: u8, reply: Reply) -> Reaction
     ensures { result ≡ cond (eqb state enlistment.one_phase) (reaction.Freed (then.EndWith (to_reply reply))) reaction.Refused }
 {
-    let one_phase = state == enlistment_state::ONE_PHASE;
-    if one_phase {
-        let name = to_reply(reply);
-        return Reaction::Freed(FollowUp::EndWith(name));
+    if state == enlistment_state::ONE_PHASE {
+        return Reaction::Freed(FollowUp::EndWith(to_reply(reply)));
     }
     Reaction::Refused
 }
@@ -64,12 +60,7 @@ pub fn to_reply_in(state: u8, reply: Reply) -> Reaction
 pub fn to_ack(state: u8) -> Reaction
     ensures { result ≡ cond (eqb state enlistment.told_commit || eqb state enlistment.told_abort) (reaction.Becomes enlistment.done then.End) reaction.Refused }
 {
-    let told_commit = state == enlistment_state::TOLD_COMMIT;
-    let told_abort = state == enlistment_state::TOLD_ABORT;
-    if told_commit {
-        return Reaction::Becomes(enlistment_state::DONE, FollowUp::End);
-    }
-    if told_abort {
+    if state == enlistment_state::TOLD_COMMIT || state == enlistment_state::TOLD_ABORT {
         return Reaction::Becomes(enlistment_state::DONE, FollowUp::End);
     }
     Reaction::Refused

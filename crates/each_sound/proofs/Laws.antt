@@ -1,14 +1,12 @@
--- Identifiers have 16 bytes and numbers 32 bits, so that of both it is enough to ask that they are not zero.
-use Prim.Native.Nat.{ℕ, ◌≤◌}
+-- Identifiers have 16 bytes, so that it is enough to ask that they are not zero.
 use mathlib.Core.Path.{◌≡◌}
 use mathlib.Core.Bool.{Bool, true, false, cond, not}
-use lib.Dec.{eqb}
 use lib.ListN.{length}
-use borrow.Author.Tests.{eq-eqb, le-leb}
-use Rattle.lists.proofs.Tests.{by_test, same_test}
-use Rattle.rules.specs.Sizes.{identifier_size, largest_number}
+use borrow.Author.Tests.{eq-eqb}
+use Rattle.lists.proofs.Tests.{same_test}
+use Rattle.rules.specs.Sizes.{identifier_size}
 use Rattle.rules.specs.Identifiers.{Id, zero_id, is_zero, same_bytes}
-use Rattle.rules.specs.Sound.{is_identifier, is_number}
+use Rattle.rules.specs.Sound.{is_identifier}
 use Rattle.rules.proofs.Identifiers.{same_equal, equal_same, zero_equal, equal_zero}
 
 pub zero_same : (t : Id) → length t ≡ identifier_size → is_zero t ≡ same_bytes t zero_id
@@ -16,9 +14,6 @@ zero_same t l = same_test (is_zero t) (same_bytes t zero_id) (λ e. equal_same t
 
 pub identifier_is : (t : Id) → length t ≡ identifier_size → not (is_zero t) ≡ is_identifier t
 identifier_is t l = rw (eq-eqb (length t) identifier_size l)
-
-pub number_is : (n : ℕ) → n ≤ largest_number → not (eqb n 0) ≡ is_number n
-number_is n l = rw (le-leb n largest_number l) (by_test (not (eqb n 0)) (λ e. rw e) (λ e. rw e))
 
 -- the one of two that a test chooses
 pub chosen : {A : Type 0} (b : Bool) (x y : A) → b ≡ true → cond b x y ≡ x

@@ -11,6 +11,7 @@ use rules::{Enlistment, Transaction, enlistment_state, kinds, marks, sizes, tran
 
 // ---- One enlistment.
 
+#[tactic(auto, unfolding(rules::specs::Sound::may_hold))]
 fn may_hold(state: u8, e: Enlistment) -> bool
     ensures { result ≡ may_hold state e }
 {
@@ -19,34 +20,24 @@ fn may_hold(state: u8, e: Enlistment) -> bool
     let s = e.state;
     match state {
         transaction_state::ACTIVE => s == enlistment_state::ACTIVE,
-        transaction_state::PHASE_ZERO => if phase_zero {
-            s == enlistment_state::ZERO
-        } else {
-            s == enlistment_state::ACTIVE
-        },
+        transaction_state::PHASE_ZERO if phase_zero => s == enlistment_state::ZERO,
+        transaction_state::PHASE_ZERO => s == enlistment_state::ACTIVE,
         transaction_state::PHASE_ONE => {
-            let voting = basics::either(
-                s == enlistment_state::PREPARING,
-                s == enlistment_state::PREPARED,
-            );
-            let lost = basics::both(s == enlistment_state::PREPARED_LOST, durable);
-            let fine = basics::either(voting, lost);
-            basics::both(!phase_zero, fine)
+            let lost = s == enlistment_state::PREPARED_LOST && durable;
+            !phase_zero
+                && (s == enlistment_state::PREPARING || s == enlistment_state::PREPARED || lost)
         }
         transaction_state::SINGLE_PHASE => {
-            let fine = basics::both(!phase_zero, e.mark == marks::YES);
-            basics::both(fine, s == enlistment_state::ONE_PHASE)
+            !phase_zero && e.mark == marks::YES && s == enlistment_state::ONE_PHASE
         }
         transaction_state::COMMITTING => {
-            let failed = basics::both(s == enlistment_state::FAILED_TO_NOTIFY, durable);
-            let told = basics::either(s == enlistment_state::TOLD_COMMIT, failed);
-            let fine = basics::either(told, s == enlistment_state::DONE);
-            basics::both(!phase_zero, fine)
+            let failed = s == enlistment_state::FAILED_TO_NOTIFY && durable;
+            !phase_zero
+                && (s == enlistment_state::TOLD_COMMIT || failed || s == enlistment_state::DONE)
         }
-        transaction_state::ABORTING => basics::either(
-            s == enlistment_state::TOLD_ABORT,
-            s == enlistment_state::DONE,
-        ),
+        transaction_state::ABORTING => {
+            s == enlistment_state::TOLD_ABORT || s == enlistment_state::DONE
+        }
         _ => false,
     }
 }
@@ -68,37 +59,29 @@ pub fn is_zero_enlistment(e: Enlistment, bare: bool) -> bool
     requires { bare ≡ same_bytes e.rm.0 zero_id }
     ensures { result ≡ is_zero_enlistment e }
 {
-    let a = basics::both(e.holder == 0, bare);
-    let b = basics::both(a, e.number == 0);
-    let c = basics::both(b, e.kind == 0);
-    let d = basics::both(c, e.mark == 0);
-    basics::both(d, e.state == 0)
+    e.holder == 0 && bare && e.number == 0 && e.kind == 0 && e.mark == 0 && e.state == 0
 }
 
 fn is_known(e: Enlistment) -> bool
     ensures { result ≡ is_known e }
 {
-    let a = basics::either(e.kind == kinds::PHASE_ZERO, e.kind == kinds::VOLATILE);
-    let b = basics::either(a, e.kind == kinds::DURABLE);
-    basics::both(b, e.mark <= marks::YES)
+    let kind = e.kind;
+    (kind == kinds::PHASE_ZERO || kind == kinds::VOLATILE || kind == kinds::DURABLE)
+        && e.mark <= marks::YES
 }
 
 // By a transaction in this state.
+#[tactic(auto, unfolding(crate::specs::Each::is_held_well))]
 pub fn is_held_well(e: Enlistment, bare: bool, state: u8) -> bool
     requires { not bare ≡ is_identifier e.rm.0 }
     ensures { result ≡ is_held_well state e }
 {
-    let known = is_known(e);
     let named = !bare;
-    let numbered = is_number(e.number);
-    let single = basics::both(e.kind == kinds::PHASE_ZERO, e.mark == marks::YES);
-    let may = may_hold(state, e);
-    let a = basics::both(!single, may);
-    let b = basics::both(numbered, a);
-    let c = basics::both(named, b);
-    basics::both(known, c)
+    let single = e.kind == kinds::PHASE_ZERO && e.mark == marks::YES;
+    is_known(e) && named && is_number(e.number) && !single && may_hold(state, e)
 }
 
+#[tactic(auto, unfolding(crate::specs::Each::is_witness))]
 pub fn is_witness(e: Enlistment, state: u8) -> bool
     ensures { result ≡ is_witness state e }
 {
@@ -114,6 +97,7 @@ pub fn is_witness(e: Enlistment, state: u8) -> bool
 // ---- One transaction.
 
 // Of which so many are held, and so many are such as its state asks for.
+#[tactic(auto, unfolding(crate::specs::Each::must_count))]
 fn must_hold(state: u8, held: u8, witnesses: u8) -> bool
     ensures { result ≡ must_count state held witnesses }
 {
@@ -127,24 +111,15 @@ fn must_hold(state: u8, held: u8, witnesses: u8) -> bool
 fn is_zero_transaction(x: Transaction) -> bool
     ensures { result ≡ is_zero_transaction x }
 {
-    let t = x.id;
-    let id = t.0;
-    let zero = is_zero_identifier(id);
-    basics::both(x.state == 0, zero)
+    x.state == 0 && is_zero_identifier(x.id.0)
 }
 
 pub fn is_transaction_sound(x: Transaction, held: u8, witnesses: u8) -> bool
     ensures { result ≡ is_counted_sound held witnesses x }
 {
-    let free = x.state == 0;
-    if free {
+    if x.state == 0 {
         return is_zero_transaction(x);
     }
-    let t = x.id;
-    let id = t.0;
-    let bare = is_zero_identifier(id);
-    let must = must_hold(x.state, held, witnesses);
     let most = sizes::HELD as u8;
-    let a = basics::both(must, held <= most);
-    basics::both(!bare, a)
+    !is_zero_identifier(x.id.0) && must_hold(x.state, held, witnesses) && held <= most
 }

@@ -1,48 +1,42 @@
 -- What a step leaves in memory is what the definition gives: refused, the memory is as it was; done, it means the outcome's table.
 use Prim.Native.Nat.{ℕ}
-use mathlib.Core.Path.{◌≡◌, sym, ◌∙◌}
-use mathlib.Core.Bool.{true, false}
-use mathlib.Core.List.{List, []}
-use lib.Dec.{eqb}
-use lib.ListN.{length}
-use borrow.Author.Tests.{eqb-true, eqb-false}
-use Rattle.rules.specs.declared.Signals.{Signals}
-use Rattle.rules.specs.Sizes.{transaction_places, enlistment_places}
-use Rattle.rules.specs.RefusalNumber as refusal
+use mathlib.Core.Path.{◌≡◌, sym, ◌∙◌, ap}
+use mathlib.Core.List.{List}
+use Rattle.std.specs.Prelude.{Result, Ok, Err, IsErrAnd}
+use Rattle.rules.specs.declared.Refusal.{Refusal}
+use Rattle.rules.specs.RefusalNumber.{accepted, refusal_number}
 use Rattle.rules.specs.Signals.{row_of}
 use Rattle.rules.specs.Events.{Outcome}
 use Rattle.rules.specs.Refusals.{Check, first_of}
+use Rattle.rules.proofs.RefusalNumbers.{no_refusal_accepted}
 use Rattle.rules.proofs.Refused.{step_done, step_refused}
 use Rattle.rows.specs.Memory.{table_in}
 use Rattle.entering.specs.declared.Answer.{Answer}
-use Rattle.entering.specs.StepIn.{Does}
+use Rattle.entering.specs.StepIn.{Does, answered}
 
 module _ (heads rows : List (List ℕ)) (capacity used : ℕ) (cs : List Check) (o : Outcome) (log : List ℕ) where
-  pub silent_does : {r : Answer} (why : ℕ) → length heads ≡ transaction_places → length rows ≡ enlistment_places → why ≡ first_of cs → eqb why refusal.accepted ≡ false → r ≡ record { signals = row_of []; used = used; refusal = why }
-      → Does cs o (table_in heads rows capacity used) log r heads rows log
-  silent_does {r} why lh lr q z a = λ e c d.
-      let n : why ≡ refusal.accepted → ⊥ = eqb-false why refusal.accepted z in
-      let s = step_refused (table_in heads rows capacity used) e log (λ t. n (q ∙ sym c ∙ t)) in
+  -- x is what the `?` returns of the refusal
+  pub refused_does : (r : Refusal) (x : Result Answer Refusal) → IsErrAnd x (λ s. s ≡ r) → refusal_number r ≡ first_of cs
+      → Does cs o (table_in heads rows capacity used) log (answered used x) heads rows log
+  refused_does r (Ok a) e q = absurd e
+  refused_does r (Err s) same q = λ e c d.
+      let n : refusal_number s ≡ first_of cs = ap refusal_number same ∙ q in
+      let k = step_refused (table_in heads rows capacity used) e log (λ t. no_refusal_accepted s (n ∙ sym c ∙ t)) in
       record {
-        long_heads = lh;
-        long_rows = lr;
-        table = rw (s, a);
-        signals = rw (s, a);
-        refusal = rw (s, a) (q ∙ sym c);
-        log = rw s;
+        table = rw k;
+        signals = rw k;
+        refusal = rw k (n ∙ sym c);
+        log = rw k;
       }
 
-  pub done_does : {r : Answer} {heads' rows' : List (List ℕ)} {after : List ℕ} {signals : Signals} {n : ℕ} (why : ℕ) → why ≡ first_of cs → eqb why refusal.accepted ≡ true → length heads' ≡ transaction_places → length rows' ≡ enlistment_places
-      → table_in heads' rows' capacity n ≡ o.table → signals ≡ row_of o.signals → after ≡ o.log → r ≡ record { signals = signals; used = n; refusal = 0 }
-      → Does cs o (table_in heads rows capacity used) log r heads' rows' after
-  done_does {r} {heads'} {rows'} {after} {signals} {n} why q z lh lr t s l a = λ e c d.
-      let m : why ≡ refusal.accepted = eqb-true why refusal.accepted z in
-      let k = step_done (table_in heads rows capacity used) e log (c ∙ sym q ∙ m) in
+  pub done_does : {a : Answer} {heads' rows' : List (List ℕ)} {after : List ℕ} → accepted ≡ first_of cs
+      → table_in heads' rows' capacity a.used ≡ o.table → a.signals ≡ row_of o.signals → after ≡ o.log
+      → Does cs o (table_in heads rows capacity used) log (answered used (Ok a)) heads' rows' after
+  done_does q t s l = λ e c d.
+      let k = step_done (table_in heads rows capacity used) e log (c ∙ sym q) in
       record {
-        long_heads = lh;
-        long_rows = lr;
-        table = rw (k, d, a) t;
-        signals = rw (k, d, a) s;
-        refusal = rw (k, a);
+        table = rw (k, d) t;
+        signals = rw (k, d) s;
+        refusal = rw k;
         log = rw (k, d) l;
       }

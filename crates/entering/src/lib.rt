@@ -2,34 +2,30 @@
 
 #![tactic(auto)]
 
-ghost use Rattle.std.specs.Prelude.{◌≡◌, false, List, [], ℕ, eqb, length};
-ghost use Rattle.rules.specs.Sizes.{enlistment_places};
+ghost use Rattle.std.specs.Prelude.{◌≡◌, false, List, [], ℕ, eqb};
 ghost use Rattle.rules.specs.Table.{place_named};
 ghost use Rattle.rules.specs.Signals.{row_of};
 ghost use Rattle.rules.specs.Events.{kind_of, begin_of, enlist_of};
 ghost use Rattle.rules.specs.Checks.{held_already, full_for, begin_checks, enlist_checks};
 ghost use Rattle.rows.specs.Memory.{table_in};
-ghost use Rattle.entering.specs.StepIn.{Fine, Does};
+ghost use Rattle.entering.specs.StepIn.{Fine, Does, answered};
 
-use rules::{Kind, Mark, Signals, Transaction, TxId, refusal, transaction_state};
+use rules::{Kind, Mark, Refusal, Signals, Transaction, TxId, transaction_state};
 
-// What a step answers beside the table, which it leaves in the memory.
+// What an accepted step answers beside the table, which it leaves in the memory.
 #[derive(Clone, Copy)]
 pub struct Answer {
     pub signals: Signals,
     pub used: u32,
-    pub refusal: u8,
 }
 
 // No signal is sent.
-pub fn silent(why: u8, used: u32) -> Answer
-    ensures { result ≡ record { signals = row_of []; used = used; refusal = why } }
+pub fn silent(used: u32) -> Answer
+    ensures { result ≡ record { signals = row_of []; used = used } }
 {
-    let signals = signals::to_none();
     Answer {
-        signals: signals,
-        used: used,
-        refusal: why,
+        signals: signals::to_none(),
+        used,
     }
 }
 
@@ -39,37 +35,31 @@ pub fn begin(
     capacity: u32,
     used: u32,
     id: [u8; 16],
-) -> Answer
+) -> Result<Answer, Refusal>
     requires { Fine heads.old rows.now capacity used }
-    ensures { (log : List ℕ) → (let tb = table_in heads.old rows.now capacity used in Does (begin_checks tb id) (begin_of id tb log) tb log result heads.new rows.now log) }
+    ensures { (log : List ℕ) → (let tb = table_in heads.old rows.now capacity used in Does (begin_checks tb id) (begin_of id tb log) tb log (answered used result) heads.new rows.now log) }
 {
     let named = lent_places::place_named(heads, id);
     let free = lent_places::place_free(heads);
-    let why = refusals::begin(id, named, free);
-    let fine = why == refusal::ACCEPTED;
-    if fine {
-        let x = Transaction {
-            id: TxId(id),
-            state: transaction_state::ACTIVE,
-        };
-        lent_places::put_transaction(heads, free, x);
-        return silent(refusal::ACCEPTED, used);
-    }
-    silent(why, used)
+    refusals::begin(id, named, free)?;
+    let x = Transaction {
+        id: TxId(id),
+        state: transaction_state::ACTIVE,
+    };
+    lent_places::put_transaction(heads, free, x);
+    Ok(silent(used))
 }
 
 // Whether the number is held, or the transaction at place p holds another durable one of the resource manager.
-fn finds_held(rows: &[[u8; 24]; 128], p: u8, n: u32, rm: [u8; 16], kind: u8) -> bool
-    requires { length rows.now ≡ enlistment_places }
-    ensures { (heads : List (List ℕ)) (capacity used : ℕ) → eqb n 0 ≡ false → result ≡ held_already (table_in heads rows.now capacity used) p rm n kind }
+fn finds_held(rows: &[[u8; 24]; 128], p: u8, n: u32, rm: [u8; 16], kind: Kind) -> bool
+    ensures { (heads : List (List ℕ)) (capacity used : ℕ) → eqb n 0 ≡ false → result ≡ held_already (table_in heads rows.now capacity used) p rm n (kind_of kind) }
 {
     let e = lent_places::numbered(rows, n);
     let second = lent_counts::has_durable_of(rows, p, rm);
-    refusals::is_already_held(e.number == n, second, kind)
+    refusals::is_already_held(e.number == n, second, u8::from(kind))
 }
 
 fn finds_full(rows: &[[u8; 24]; 128], p: u8) -> bool
-    requires { length rows.now ≡ enlistment_places }
     ensures { (heads : List (List ℕ)) (capacity used : ℕ) → result ≡ full_for (table_in heads rows.now capacity used) p }
 {
     let vacant = lent_places::place_vacant(rows);
@@ -87,28 +77,20 @@ pub fn enlist(
     rm: [u8; 16],
     kind: Kind,
     mark: Mark,
-) -> Answer
+) -> Result<Answer, Refusal>
     requires { Fine heads.now rows.old capacity used }
-    ensures { (log : List ℕ) → (let tb = table_in heads.now rows.old capacity used in Does (enlist_checks tb id rm n (kind_of kind)) (enlist_of (place_named id tb) n rm kind mark tb log) tb log result heads.now rows.new log) }
+    ensures { (log : List ℕ) → (let tb = table_in heads.now rows.old capacity used in Does (enlist_checks tb id rm n (kind_of kind)) (enlist_of (place_named id tb) n rm kind mark tb log) tb log (answered used result) heads.now rows.new log) }
 {
     let named = lent_places::place_named(heads, id);
     let x = lent_places::transaction_at(heads, named);
-    let k = reactions::kind_of(kind);
-    let already = finds_held(rows, named, n, rm, k);
+    let already = finds_held(rows, named, n, rm, kind);
     let full = finds_full(rows, named);
-    let why = refusals::enlist(id, rm, n, named, x.state, already, full);
-    let fine = why == refusal::ACCEPTED;
-    if fine {
-        let entry = accepting::entry(named, x.state, n, rm, kind, mark);
-        let enlistment = entry.enlistment;
-        let vacant = lent_places::place_vacant(rows);
-        lent_places::put_enlistment(rows, vacant, enlistment);
-        let signals = entry.signals;
-        return Answer {
-            signals: signals,
-            used: used,
-            refusal: refusal::ACCEPTED,
-        };
-    }
-    silent(why, used)
+    refusals::enlist(id, rm, n, named, x.state, already, full)?;
+    let entry = accepting::entry(named, x.state, n, rm, kind, mark);
+    let vacant = lent_places::place_vacant(rows);
+    lent_places::put_enlistment(rows, vacant, entry.enlistment);
+    Ok(Answer {
+        signals: entry.signals,
+        used,
+    })
 }

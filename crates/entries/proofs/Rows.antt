@@ -1,12 +1,13 @@
 -- Loops over the entries of a record: the next of those that are left is read from the log.
-use Prim.Native.Nat.{ℕ, zero, suc, ◌+◌, ◌≤◌, ◌<◌}
+use Prim.Native.Nat.{ℕ, zero, suc, ◌+◌, ◌-◌, ◌≤◌, ◌<◌}
 use native.Mathlib.Omega.{arith}
 use native.Mathlib.Numerals.{add-one}
-use native.Mathlib.Nat.{le_of_suc-le-suc, not-suc-le-zero}
+use native.Mathlib.Nat.{le_of_suc-le-suc, not-suc-le-zero, sub-zero, suc-sub-suc}
 use mathlib.Core.Path.{◌≡◌, refl, ap, sym, ◌∙◌}
 use mathlib.Core.Bool.{Bool, true, false}
 use mathlib.Core.List.{List, [], ◌∷◌}
 use lib.ListN.{length, drop}
+use Rattle.std.specs.List.{list_any, range_with_len}
 use Rattle.lists.specs.Lists.{any, differ}
 use Rattle.lists.proofs.Loops.{drop_done, Ahead, ahead_next, ahead_stop}
 use Rattle.rules.specs.Identifiers.{Id, same_bytes}
@@ -43,6 +44,28 @@ module _ (log : List ℕ) (p j : ℕ) {n : ℕ} (e : n ≡ entries_count log p) 
 
   pub entries_over : n ≤ j → drop j (entries_at log p) ≡ []
   entries_over h = drop_done (entries_at log p) j (omega (arith, entries_long log p))
+
+-- ── whether one of them passes a test ───────────────────────────────────────────────────────────────────────────
+
+any_from : (f : Entry → Bool) (log : List ℕ) (p j n : ℕ) → list_any (λ k. f (entry_at log p k)) (range_with_len j n) ≡ any f (entries_from log p j n)
+unfolding any entries_from
+any_from f log p j zero = refl
+any_from f log p j (suc n) = rw (add-one j, any_from f log p (suc j) n)
+
+from_behind : (log : List ℕ) (p i j n : ℕ) → drop i (entries_from log p j n) ≡ entries_from log p (j + i) (n - i)
+unfolding entries_from
+from_behind log p zero j n = let k : j + 0 ≡ j = omega arith in rw (k, sub-zero n)
+from_behind log p (suc i) j zero = let k : 0 - suc i ≡ 0 = omega arith in rw k
+from_behind log p (suc i) j (suc n) = let k : suc j + i ≡ j + suc i = omega arith in rw (suc-sub-suc n i, ← k) (from_behind log p i (suc j) n)
+
+-- n is their count
+pub any_read : (f : Entry → Bool) (log : List ℕ) (p : ℕ) {n : ℕ} → n ≡ entries_count log p → list_any (λ k. f (entry_at log p k)) (range_with_len 0 n) ≡ any f (entries_at log p)
+unfolding entries_at
+any_read f log p {n} e = rw e (any_from f log p 0 (entries_count log p))
+
+pub any_behind : (f : Entry → Bool) (log : List ℕ) (p i : ℕ) {n : ℕ} → n ≡ entries_count log p → list_any (λ k. f (entry_at log p k)) (range_with_len i (n - i)) ≡ any f (drop i (entries_at log p))
+unfolding entries_at
+any_behind f log p i e = let k : 0 + i ≡ i = omega arith in rw (e, from_behind log p i 0 (entries_count log p), k) (any_from f log p i (entries_count log p - i))
 
 -- ── whether no two have one resource manager ────────────────────────────────────────────────────────────────────
 

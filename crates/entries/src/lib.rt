@@ -11,34 +11,22 @@ ghost use Rattle.log_reader.specs.Reading.{entries_at};
 pub fn has_zero_manager(log: &[u8], at: usize) -> bool
     ensures { result ≡ any (λ e. is_zero e.rm) (entries_at log.now at) }
 {
-    let n = log_reader::entries_count(log, at);
-    let mut j: u8 = 0;
-    while j < n {
-        let rm = log_reader::manager_at(log, at, j);
-        let zero = identifiers::is_zero(rm);
-        j += 1;
-        if zero {
-            return true;
-        }
-    }
-    false
+    let count = log_reader::entries_count(log, at);
+    (0..count).any(|j| identifiers::is_zero(log_reader::manager_at(log, at, j)))
 }
 
 // From zero on, so that none is zero.
 pub fn numbers_ascend(log: &[u8], at: usize) -> bool
     ensures { result ≡ ascend_from 0 (entries_at log.now at) }
 {
-    let n = log_reader::entries_count(log, at);
     let mut last: u32 = 0;
-    let mut j: u8 = 0;
-    while j < n {
+    for j in 0..log_reader::entries_count(log, at) {
         let number = log_reader::number_at(log, at, j);
         let above = last < number;
-        last = number;
-        j += 1;
-        if above {} else {
+        if !above {
             return false;
         }
+        last = number;
     }
     true
 }
@@ -47,28 +35,16 @@ pub fn numbers_ascend(log: &[u8], at: usize) -> bool
 fn has_manager(log: &[u8], at: usize, from: u8, rm: [u8; 16]) -> bool
     ensures { result ≡ any (λ e. same_bytes e.rm rm) (drop from (entries_at log.now at)) }
 {
-    let n = log_reader::entries_count(log, at);
-    let mut j: u8 = from;
-    while j < n {
-        let other = log_reader::manager_at(log, at, j);
-        let same = identifiers::same(other, rm);
-        j += 1;
-        if same {
-            return true;
-        }
-    }
-    false
+    let count = log_reader::entries_count(log, at);
+    (from..count).any(|j| identifiers::same(log_reader::manager_at(log, at, j), rm))
 }
 
 pub fn managers_differ(log: &[u8], at: usize) -> bool
     ensures { result ≡ differ same_entry_manager (entries_at log.now at) }
 {
-    let n = log_reader::entries_count(log, at);
-    let mut j: u8 = 0;
-    while j < n {
+    for j in 0..log_reader::entries_count(log, at) {
         let rm = log_reader::manager_at(log, at, j);
-        j += 1;
-        let again = has_manager(log, at, j, rm);
+        let again = has_manager(log, at, j + 1, rm);
         if again {
             return false;
         }
@@ -79,15 +55,6 @@ pub fn managers_differ(log: &[u8], at: usize) -> bool
 pub fn has_number(log: &[u8], at: usize, number: u32) -> bool
     ensures { result ≡ any (λ d. eqb d.number number) (entries_at log.now at) }
 {
-    let n = log_reader::entries_count(log, at);
-    let mut j: u8 = 0;
-    while j < n {
-        let other = log_reader::number_at(log, at, j);
-        let same = other == number;
-        j += 1;
-        if same {
-            return true;
-        }
-    }
-    false
+    let count = log_reader::entries_count(log, at);
+    (0..count).any(|j| log_reader::number_at(log, at, j) == number)
 }

@@ -3,28 +3,15 @@
 #![tactic(auto)]
 
 ghost use Rattle.std.specs.Prelude.{◌≡◌};
-ghost use Rattle.rules.specs.Events.{kind_of, mark_asked, mark_of};
+ghost use Rattle.rules.specs.Events.{kind_of, mark_of};
 ghost use Rattle.rules.specs.Refusals.{reaction_refusal};
 
-use rules::{Kind, Mark, Reaction, kinds, marks, refusal};
+use rules::{Kind, Mark, Reaction, marks, refusal_number};
 
 pub fn kind_of(kind: Kind) -> u8
     ensures { result ≡ kind_of kind }
 {
-    match kind {
-        Kind::PhaseZero => kinds::PHASE_ZERO,
-        Kind::Volatile => kinds::VOLATILE,
-        Kind::Durable => kinds::DURABLE,
-    }
-}
-
-fn mark_asked(mark: Mark) -> u8
-    ensures { result ≡ mark_asked mark }
-{
-    match mark {
-        Mark::No => marks::NO,
-        Mark::Yes => marks::YES,
-    }
+    u8::from(kind)
 }
 
 pub fn mark_of(kind: Kind, mark: Mark) -> u8
@@ -32,17 +19,17 @@ pub fn mark_of(kind: Kind, mark: Mark) -> u8
 {
     match kind {
         Kind::PhaseZero => marks::NO,
-        Kind::Volatile => mark_asked(mark),
-        Kind::Durable => mark_asked(mark),
+        Kind::Volatile | Kind::Durable => u8::from(mark),
     }
 }
 
+// A number and no Option of a refusal, as document 01 has it of a reaction (`reaction_refusal`): 7, or 0 for none.
 pub fn refusal_of(r: Reaction) -> u8
     ensures { result ≡ reaction_refusal r }
 {
     match r {
-        Reaction::Refused => refusal::ENLISTMENT_STATE,
-        Reaction::Freed(_) => refusal::ACCEPTED,
-        Reaction::Becomes(_, _) => refusal::ACCEPTED,
+        Reaction::Refused => refusal_number::ENLISTMENT_STATE,
+        Reaction::Freed(_) => refusal_number::ACCEPTED,
+        Reaction::Becomes(_, _) => refusal_number::ACCEPTED,
     }
 }

@@ -15,7 +15,7 @@ use Rattle.lists.proofs.Places.{IsPlace, at_below}
 use Rattle.rules.specs.declared.Enlistment.{Enlistment}
 use Rattle.rules.specs.declared.Table.{Table}
 use Rattle.rules.specs.declared.Name.TheVariants as name
-use Rattle.rules.specs.Sizes.{transaction_places}
+use Rattle.rules.specs.Sizes.{transaction_places, enlistment_places}
 use Rattle.rules.specs.EnlistmentState as enlistment
 use Rattle.rules.specs.Identifiers.{Id}
 use Rattle.rules.specs.Table.{no_transaction, no_enlistment, place_named, transaction_at, state_at, held_by, held, is_in}
@@ -50,20 +50,20 @@ first_lacks p rm tb low = by_test (any (is_undone rm) (held p tb))
     (λ t. let h : (first_or no_enlistment (is_undone rm) (held p tb)).holder ≡ p = (of_held p tb (first_passes no_enlistment (is_undone rm) (held p tb) t).0).1 in rw t (ne_eqb (first_or no_enlistment (is_undone rm) (held p tb)).holder 0 (λ z. omega (arith, h, z, low))))
     (λ t. rw (t, first_none no_enlistment (is_undone rm) (held p tb) t))
 
-module _ (heads rows : List (List ℕ)) (capacity used : ℕ) (id rm : Id) where
+module _ (heads rows : List (List ℕ)) (capacity used : ℕ) (long : length heads ≡ transaction_places) (id rm : Id) where
   abbrev tb : Table
   tb = table_in heads rows capacity used
 
-  pub known_takes : {p : ℕ} → Fine heads rows capacity used → p ≡ place_named id tb → eqb p 0 ≡ false → Takes heads rows used p
-  known_takes {p} f named t = live_takes heads rows capacity used f (subst (λ k. Live (transaction_at k tb)) (sym named) (named_live id tb (λ z. eqb-false p 0 t (named ∙ z))))
+  pub known_takes : {p : ℕ} → Fine heads rows capacity used → p ≡ place_named id tb → (p ≡ 0 → ⊥) → Takes heads rows used p
+  known_takes {p} f named n = live_takes heads rows capacity used long f (subst (λ k. Live (transaction_at k tb)) (sym named) (named_live id tb (λ z. n (named ∙ z))))
 
   pub asked_state : {p : ℕ} {h : Holding} → p ≡ place_named id tb → h ≡ taken p 0 tb → h.transaction.state ≡ state_at (place_named id tb) tb
   asked_state named out = ap (λ g. g.transaction.state) out ∙ ap (λ q. state_at q tb) named
 
-  pub asked_lacks : {p : ℕ} {h : Holding} {e : Enlistment} → Takes heads rows used p → length heads ≡ transaction_places → p ≡ place_named id tb → h ≡ taken p 0 tb
+  pub asked_lacks : {p : ℕ} {h : Holding} {e : Enlistment} → Takes heads rows used p → p ≡ place_named id tb → h ≡ taken p 0 tb
       → e ≡ first_or no_enlistment (is_undone rm) (held h.place (alone h)) → eqb e.holder 0 ≡ none (is_undone rm) (held (place_named id tb) tb)
   unfolding held
-  asked_lacks {p} {h} {e} k long named out first =
+  asked_lacks {p} {h} {e} k named out first =
       let there : IsPlace tb.transactions p = record { low = k.low; high = omega (arith, k.high, long, length-map heads transaction_in) } in
       let same : held h.place (alone h) ≡ held p tb =
       ap (λ g. held g.place (alone g)) out
@@ -85,7 +85,7 @@ sound_few tb s p low = by_test (eqb (state_at p tb) 0)
     (λ t. omega (arith, ap (λ l. length l) (filter_none (held_by p) tb.enlistments (λ e m. ne_eqb e.holder p (λ q. s.holders_live e m (λ z. omega (arith, z, q, low)) (ap (λ k. state_at k tb) q ∙ eqb-true _ 0 t))))))
     (λ t. s.few p (eqb-false _ 0 t))
 
-pub fine_ready : {heads rows : List (List ℕ)} {capacity used : ℕ} → Fine heads rows capacity used → ReadyIn heads rows capacity used
-fine_ready {heads} {rows} {capacity} {used} f =
-    let s : Sound (table_in heads rows capacity used) = sound_sentences (table_in heads rows capacity used) f.sound in
-    record { long_heads = f.long_heads; long_rows = f.long_rows; used_first = omega (arith, s.room, s.capacity_small); few = sound_few (table_in heads rows capacity used) s }
+pub fine_ready : {heads rows : List (List ℕ)} {capacity used : ℕ} → length heads ≡ transaction_places → length rows ≡ enlistment_places → Fine heads rows capacity used → ReadyIn heads rows capacity used
+fine_ready {heads} {rows} {capacity} {used} lh lr f =
+    let s : Sound (table_in heads rows capacity used) = sound_sentences (table_in heads rows capacity used) f in
+    record { used_first = omega (arith, s.room, s.capacity_small); few = sound_few (table_in heads rows capacity used) s }

@@ -16,7 +16,7 @@ use Rattle.lists.proofs.Places.{IsPlace}
 use Rattle.rules.specs.declared.Enlistment.{Enlistment}
 use Rattle.rules.specs.declared.Table.{Table}
 use Rattle.rules.specs.declared.Act.{Act}
-use Rattle.rules.specs.RefusalNumber as refusal
+use Rattle.rules.specs.RefusalNumber.{accepted}
 use Rattle.rules.specs.Sizes.{transaction_places, held_most, record_size}
 use Rattle.rules.specs.Table.{no_enlistment, transaction_at, is_numbered, numbered, held_by, held, on_held, change_held}
 use Rattle.rules.specs.Sound.{Sound, Live, is_open, open_count, sound_of}
@@ -39,7 +39,7 @@ use Rattle.rows.specs.Memory.{table_in}
 use Rattle.entering.specs.StepIn.{Fine}
 use Rattle.events.proofs.Takes.{Takes, live_takes}
 
-about_live : (tb : Table) (n : ℕ) (a : Act) → sound_of tb ≡ true → first_of (about_one_checks tb n a) ≡ refusal.accepted → Live (transaction_at (numbered n tb).holder tb)
+about_live : (tb : Table) (n : ℕ) (a : Act) → sound_of tb ≡ true → first_of (about_one_checks tb n a) ≡ accepted → Live (transaction_at (numbered n tb).holder tb)
 unfolding numbered all
 about_live tb n a sound q =
     let cs = about_one_checks tb n a in
@@ -85,13 +85,12 @@ pub room_out : {g h : Holding} {p : ℕ} (capacity opened : ℕ) (tb : Table)
     → h ≡ taken p 0 tb → g ≡ taken p (capacity - record_size * (opened - one_if (is_open (transaction_at p tb).state (held p (alone (taken p 0 tb)))))) tb
 room_out capacity opened tb q r = q ∙ ap (λ x. record { enlistments = x.enlistments; transaction = x.transaction; place = x.place; capacity = capacity - record_size * (opened - one_if (is_open x.transaction.state (held x.place (alone x)))); used = x.used }) r
 
-module _ (heads rows : List (List ℕ)) (capacity used : ℕ) where
-  pub about_takes : (n : ℕ) (a : Act) {e : Enlistment} {why : ℕ} → Fine heads rows capacity used → e ≡ numbered n (table_in heads rows capacity used) → why ≡ first_of (about_one_checks (table_in heads rows capacity used) n a)
-      → eqb why refusal.accepted ≡ true → Takes heads rows used e.holder
-  about_takes n a {e} {why} f is q z =
-      live_takes heads rows capacity used f
-      (subst (λ x. Live (transaction_at x.holder (table_in heads rows capacity used))) (sym is)
-      (about_live (table_in heads rows capacity used) n a f.sound (sym q ∙ eqb-true why refusal.accepted z)))
+module _ (heads rows : List (List ℕ)) (capacity used : ℕ) (long : length heads ≡ transaction_places) where
+  pub about_takes : (n : ℕ) (a : Act) {e : Enlistment} → Fine heads rows capacity used → e ≡ numbered n (table_in heads rows capacity used)
+      → accepted ≡ first_of (about_one_checks (table_in heads rows capacity used) n a) → Takes heads rows used e.holder
+  about_takes n a f is q =
+      live_takes heads rows capacity used long f
+      (subst (λ x. Live (transaction_at x.holder (table_in heads rows capacity used))) (sym is) (about_live (table_in heads rows capacity used) n a f (sym q)))
 
-  pub enough : (opened : ℕ) → Fine heads rows capacity used → opened ≡ open_count (table_in heads rows capacity used) → record_size * opened ≤ capacity
-  enough opened f q = omega (arith, q, (sound_sentences (table_in heads rows capacity used) f.sound).room)
+pub enough : (tb : Table) (opened : ℕ) → sound_of tb ≡ true → opened ≡ open_count tb → record_size * opened ≤ tb.capacity
+enough tb opened f q = omega (arith, q, (sound_sentences tb f).room)

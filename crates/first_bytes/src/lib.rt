@@ -2,7 +2,7 @@
 
 #![tactic(auto)]
 
-ghost use Rattle.std.specs.Prelude.{◌≡◌, not, ◌||◌, eqb};
+ghost use Rattle.std.specs.Prelude.{◌≡◌, ◌<◌, not, ◌||◌, eqb, MatchOption};
 ghost use Rattle.rules.specs.Log.{size_of, commit_tag, forget_tag};
 
 use rules::sizes;
@@ -17,22 +17,21 @@ const RECORD: usize = sizes::RECORD as usize;
 
 const ENTRY: usize = sizes::ENTRY as usize;
 
-// 0 if they begin none.
-pub fn size_of(first: u8, second: u8) -> usize
-    ensures { result ≡ size_of first second }
+// None if they begin none.
+pub fn size_of(first: u8, second: u8) -> Option<usize>
+    ensures { MatchOption result (size_of first second ≡ 0) (λ size. (size ≡ size_of first second) × (0 < size)) }
 {
-    let some = basics::both(0 < second, second <= HELD);
-    let commit = basics::both(first == COMMIT, some);
-    if commit {
-        return RECORD + ENTRY * (second as usize);
+    match first {
+        COMMIT => (1..=HELD)
+            .contains(&second)
+            .then_some(RECORD + ENTRY * (second as usize)),
+        FORGET => (second == 0).then_some(RECORD),
+        _ => None,
     }
-    let forget = basics::both(first == FORGET, second == 0);
-    if forget { RECORD } else { 0 }
 }
 
 pub fn begins_none(first: u8) -> bool
     ensures { result ≡ not (eqb first commit_tag || eqb first forget_tag) }
 {
-    let begins = basics::either(first == COMMIT, first == FORGET);
-    !begins
+    !(first == COMMIT || first == FORGET)
 }

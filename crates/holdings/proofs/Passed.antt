@@ -1,28 +1,26 @@
--- A loop that puts f(e) for each enlistment e that is held: what `on_held` makes of each is put for it, and nothing else of the holding changes.
+-- A loop along an array that puts f(x) for each x: behind each turn stands what f makes of those passed, and then the others as they were.
 use Prim.Native.Nat.{ℕ, ◌<◌, ◌+◌}
-use mathlib.Core.Path.{◌≡◌, refl}
+use native.Mathlib.Omega.{arith}
+use mathlib.Core.Path.{◌≡◌, ap, ◌∙◌}
 use mathlib.Core.Bool.{true, false}
-use mathlib.Core.List.{List}
-use lib.ListN.{get_or, set}
-use Rattle.lists.proofs.Loops.{Part, Passed, pass_again, pass_over}
+use mathlib.Core.List.{List, ◌++◌, map}
+use lib.ListN.{length, get_or, set, take, drop, length-append, length-map, length-take, length-drop}
+use Rattle.std.proofs.lemmas.List.{get_or_default}
+use Rattle.std.proofs.lemmas.List.Edits.{map_over_more}
 use Rattle.rules.specs.declared.Enlistment.{Enlistment}
-use Rattle.rules.specs.Sizes.{held_most}
 use Rattle.rules.specs.Table.{held_by, on_held}
-use Rattle.holdings.specs.declared.Holding.{Holding}
 
-abbrev with_enlistments : List Enlistment → Holding → Holding
-with_enlistments es h = record { enlistments = es; transaction = h.transaction; place = h.place; capacity = h.capacity; used = h.used }
+module _ {A : Type 0} (f : A → A) (es : List A) {us : List A} {n i : ℕ} (long : length es ≡ n) (l : i < n) (q : us ≡ map f (take i es) ++ drop i es) (d : A) where
+  there : i < length us
+  there = rw (q, length-append, length-map, length-take, length-drop) (omega (arith, long, l))
 
-pub part_held : Part (λ (h : Holding). h.enlistments) with_enlistments
-part_held = record { of_put = λ es h. refl; put_of = λ h. refl; put_put = λ es ds h. refl }
+  pub put_next : {y : A} → y ≡ f (get_or us i d) → set us i y ≡ map f (take (i + 1) es) ++ drop (i + 1) es
+  put_next e = ap (set us i) e ∙ map_over_more f es us i (get_or us i d) (omega (arith, long, l)) q (get_or_default us i d (get_or us i d) there)
 
--- p is its place
-abbrev pub PassedHeld : ℕ → (Enlistment → Enlistment) → Holding → Holding → ℕ → Type 0
-PassedHeld p f h u i = Passed (λ (h : Holding). h.enlistments) with_enlistments held_most (on_held p f) h u i
+-- what is put for one that is held, and for another
+module _ (p : ℕ) (f : Enlistment → Enlistment) {e : Enlistment} where
+  pub held_changes : {y : Enlistment} → held_by p e ≡ true → y ≡ f e → y ≡ on_held p f e
+  held_changes h q = rw h q
 
-module _ (p : ℕ) (f : Enlistment → Enlistment) {h u : Holding} {i : ℕ} (d : Enlistment) (q : PassedHeld p f h u i) (l : i < held_most) where
-  pub pass_held : {e : Enlistment} → held_by p (get_or u.enlistments i d) ≡ true → e ≡ f (get_or u.enlistments i d) → PassedHeld p f h (with_enlistments (set u.enlistments i e) u) (i + 1)
-  pass_held b e = pass_again part_held d q l (rw b e)
-
-  pub pass_other : held_by p (get_or u.enlistments i d) ≡ false → PassedHeld p f h u (i + 1)
-  pass_other b = pass_over part_held d q l (rw b)
+  pub other_stays : held_by p e ≡ false → e ≡ on_held p f e
+  other_stays h = rw h

@@ -29,15 +29,6 @@ filled_at (suc n) zero (e ∷ es) h = refl
 filled_at (suc n) (suc k) [] h = filled_at n k [] (omega arith)
 filled_at (suc n) (suc k) (e ∷ es) h = filled_at n k es (omega arith)
 
-module _ (f : Enlistment → Bool) (empty : f no_enlistment ≡ false) where
-  -- the empty ones do not pass
-  filter_filled : (n : ℕ) (es : List Enlistment) → length es ≤ n → filter f (filled n es) ≡ filter f es
-  unfolding filled filter
-  filter_filled zero [] h = refl
-  filter_filled zero (e ∷ es) h = absurd (omega arith)
-  filter_filled (suc n) [] h = rw empty (filter_filled n [] (omega arith))
-  filter_filled (suc n) (e ∷ es) h = ap (λ l. cond (f e) (e ∷ l) l) (filter_filled n es (omega arith))
-
 -- ── refilled ────────────────────────────────────────────────────────────────────────────────────────────────────
 
 module _ (f : Enlistment → Bool) where

@@ -3,9 +3,7 @@
 use Prim.Native.Nat.{ℕ}
 use mathlib.Core.Path.{◌≡◌, sym, ◌∙◌}
 use mathlib.Core.List.{List, map}
-use lib.ListN.{length}
 use Rattle.lists.specs.Places.{change_at}
-use Rattle.rules.specs.Sizes.{transaction_places, enlistment_places}
 use Rattle.rules.specs.Table.{held_by}
 use Rattle.holdings.specs.declared.Holding.{Holding}
 use Rattle.holdings.specs.Within.{taken, refill}
@@ -18,10 +16,9 @@ module _ (heads rows : List (List ℕ)) where
 
   abbrev Back : Holding → List (List ℕ) → List (List ℕ) → Type 0
   Back h heads' rows' =
-      (length heads' ≡ transaction_places) × (length rows' ≡ enlistment_places)
-      × (map transaction_in heads' ≡ change_at h.place (λ x. h.transaction) (map transaction_in heads))
+      (map transaction_in heads' ≡ change_at h.place (λ x. h.transaction) (map transaction_in heads))
       × (map enlistment_in rows' ≡ refill (held_by h.place) h.enlistments (map enlistment_in rows))
 
   pub put_back_determined : (h : Holding) {heads' rows' heads'' rows'' : List (List ℕ)} → OfBytes heads' rows' → OfBytes heads'' rows'' → Back h heads' rows' → Back h heads'' rows''
       → (heads' ≡ heads'') × (rows' ≡ rows'')
-  put_back_determined h b c (_, _, x, e) (_, _, y, f) = (heads_determined b.each_head c.each_head x y, rows_determined b.each_row c.each_row e f)
+  put_back_determined h b c (x, e) (y, f) = (heads_determined b.each_head c.each_head x y, rows_determined b.each_row c.each_row e f)

@@ -52,6 +52,7 @@ module _ (p : ℕ) (hs : List Enlistment) (start rows : List (List ℕ)) {k i : 
     rest = rw (map_set enlistment_in rows i row) (rewrite_again {h' = refill_from (held_by p) (k + 1) hs} (enlistment_in d) t.rest lt (λ xs. let e : k + 1 ≡ suc k = omega arith in rw (here, m, e, q)));
   }
 
-pub put_done : {p : ℕ} {hs : List Enlistment} {start rows : List (List ℕ)} {k i : ℕ} → Putting p hs start rows k i → 128 ≤ i → (length rows ≡ enlistment_places) × (map enlistment_in rows ≡ refill (held_by p) hs (map enlistment_in start))
+pub put_done : {p : ℕ} {hs : List Enlistment} {start rows : List (List ℕ)} {k i : ℕ} → Putting p hs start rows k i → 128 ≤ i
+    → map enlistment_in rows ≡ refill (held_by p) hs (map enlistment_in start)
 unfolding refill_from
-put_done t h = (t.long, rewrite_done t.rest h refl)
+put_done t h = rewrite_done t.rest h refl

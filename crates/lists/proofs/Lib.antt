@@ -5,3 +5,5 @@ pub mod Loops
 pub mod Says
 pub mod Apart
 pub mod Stores
+pub mod Copies
+pub mod Chains

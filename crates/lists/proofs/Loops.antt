@@ -7,7 +7,7 @@ use mathlib.Core.Path.{◌≡◌, refl, ap, sym, ◌∙◌}
 use mathlib.Core.Bool.{Bool, true, false, cond, not, ◌&&◌, ◌||◌}
 use mathlib.Core.List.{List, [], ◌∷◌, ◌++◌, map, append-nil, append_assoc}
 use lib.ListN.{length, get_or, set, take, drop, length-set, length-map, drop_of_length-le, get_or-map}
-use lib.Seq.{drop-cons, take_all, take-suc-set, set-get_or}
+use lib.Seq.{drop-cons, take_all, take-suc-set}
 use lib.Dec.{eqb}
 use borrow.Author.Tests.{eq-eqb, ne_eqb, eqb-true, eqb-false}
 use Rattle.lists.specs.Lists.{all, any, filter, count, first_or}
@@ -69,20 +69,6 @@ module _ {A B : Type 0} {g : List A → B} {l : List A} {whole : B} {i : ℕ} (p
 pub ahead_put : {A B : Type 0} (g g' : List A → List B) (row : List B) (k : ℕ) (v : B) {l : List A} {whole : List B} {i : ℕ} {x : A} → Ahead (λ xs. take k row ++ g xs) l whole i → drop i l ≡ x ∷ drop (i + 1) l → k < length row
     → g (x ∷ drop (i + 1) l) ≡ v ∷ g' (drop (i + 1) l) → Ahead (λ xs. take (k + 1) (set row k v) ++ g' xs) l whole (i + 1)
 ahead_put g g' row k v p n h e = ahead_next p n (rw (add-one k, take-suc-set row k v h, append_assoc, e))
-
--- whether any passes
-module _ {A : Type 0} (f : A → Bool) {l : List A} {whole : Bool} {i : ℕ} (p : Ahead (any f) l whole i) where
-  pub any_next : {b : Bool} {x : A} → drop i l ≡ x ∷ drop (i + 1) l → b ≡ f x → b ≡ false → Ahead (any f) l whole (i + 1)
-  unfolding any
-  any_next n e t = ahead_next p n (rw (sym e ∙ t))
-
-  pub any_here : {b : Bool} {x : A} → drop i l ≡ x ∷ drop (i + 1) l → b ≡ f x → b ≡ true → true ≡ whole
-  unfolding any
-  any_here n e t = ahead_stop p n (rw (sym e ∙ t))
-
-  pub any_over : drop i l ≡ [] → false ≡ whole
-  unfolding any
-  any_over n = ahead_done p n refl
 
 -- ── from the front, stopping early: g i of what is left is the answer ───────────────────────────────────────────
 
@@ -164,27 +150,6 @@ module _ {A : Type 0} (f g : A → Bool) where
 pub change_there : {A : Type 0} (f : A → A) (d : A) (p : ℕ) (xs : List A) → change_at p f xs ≡ change_at p (λ y. f (at d p xs)) xs
 change_there f d p xs = rw (change_is f p d xs, change_is (λ y. f (at d p xs)) p d xs, at_is d p xs) (by_test (eqb p 0) (λ e. rw e) (λ e. rw e))
 
--- ── two arrays side by side ─────────────────────────────────────────────────────────────────────────────────────
-
-pub record Paired {A B : Type 0} (g : List A → List A → B) (n : ℕ) (a b : List A) (i : ℕ) : Type 0 where
-  pub within : i ≤ n
-  pub long_a : length a ≡ n
-  pub long_b : length b ≡ n
-  pub same : g a b ≡ g (drop i a) (drop i b)
-
-module _ {A B : Type 0} {g : List A → List A → B} {n : ℕ} {a b : List A} where
-  pub pair_start : length a ≡ n → length b ≡ n → Paired g n a b 0
-  pair_start h k = record { within = omega arith; long_a = h; long_b = k; same = refl }
-
-  pub pair_next : {i : ℕ} (d : A) → Paired g n a b i → i < n → ((xs ys : List A) → g (get_or a i d ∷ xs) (get_or b i d ∷ ys) ≡ g xs ys) → Paired g n a b (i + 1)
-  pair_next {i} d p h e = record { within = omega arith; long_a = p.long_a; long_b = p.long_b; same = (rw (drop_at a i d (omega arith), drop_at b i d (omega arith)) at p.same) ∙ e (drop (i + 1) a) (drop (i + 1) b) }
-
-  pub pair_stop : {i : ℕ} {r : B} (d : A) → Paired g n a b i → i < n → ((xs ys : List A) → g (get_or a i d ∷ xs) (get_or b i d ∷ ys) ≡ r) → r ≡ g a b
-  pair_stop {i} d p h e = sym ((rw (drop_at a i d (omega arith), drop_at b i d (omega arith)) at p.same) ∙ e (drop (i + 1) a) (drop (i + 1) b))
-
-  pub pair_done : {i : ℕ} {r : B} → Paired g n a b i → n ≤ i → g [] [] ≡ r → r ≡ g a b
-  pair_done {i} p h e = sym ((rw (drop_done a i (omega arith), drop_done b i (omega arith)) at p.same) ∙ e)
-
 -- ── from the back, folding from the right: b is f of what is behind i ───────────────────────────────────────────
 
 pub record Gathered {A B : Type 0} (f : ℕ → List A → B) (n : ℕ) (l : List A) (b : B) (i : ℕ) : Type 0 where
@@ -247,37 +212,6 @@ module _ {A : Type 0} {n : ℕ} {h : List A → List A} where
   pub rewrite_done : {whole l : List A} {i : ℕ} → Rewritten n h whole l i → n ≤ i → h [] ≡ [] → l ≡ whole
   rewrite_done {whole} {l} {i} p lt e = sym (rest_end h l i e (omega arith)) ∙ p.same
 
--- f(x) is put for each x
-map_again : {A : Type 0} {n : ℕ} {f : A → A} {whole l : List A} {i : ℕ} {y : A} (d : A) → Rewritten n (map f) whole l i → i < n → y ≡ f (get_or l i d) → Rewritten n (map f) whole (set l i y) (i + 1)
-map_again {f = f} d p h q = rewrite_again d p h (λ xs. ap (λ z. z ∷ map f xs) (sym q))
-
--- of is the list that an r has, and put xs gives it xs for that
-pub record Part {R A : Type 0} (of : R → List A) (put : List A → R → R) : Type 0 where
-  pub of_put : (xs : List A) (r : R) → of (put xs r) ≡ xs
-  pub put_of : (r : R) → put (of r) r ≡ r
-  pub put_put : (xs ys : List A) (r : R) → put xs (put ys r) ≡ put xs r
-
--- f(x) is put for each x of this list, and nothing else of r changes
-pub record Passed {R A : Type 0} (of : R → List A) (put : List A → R → R) (n : ℕ) (f : A → A) (r₀ r : R) (i : ℕ) : Type 0 where
-  pub list : Rewritten n (map f) (map f (of r₀)) (of r) i
-  pub others : put [] r ≡ put [] r₀
-
-module _ {R A : Type 0} {of : R → List A} {put : List A → R → R} (part : Part of put) {n : ℕ} {f : A → A} where
-  pub pass_start : {r : R} → length (of r) ≡ n → Passed of put n f r r 0
-  pass_start h = record { list = rewrite_start h; others = refl }
-
-  pub pass_again : {r₀ r : R} {i : ℕ} {y : A} (d : A) → Passed of put n f r₀ r i → i < n → y ≡ f (get_or (of r) i d) → Passed of put n f r₀ (put (set (of r) i y) r) (i + 1)
-  pass_again {r₀} {r} {i} {y} d p h q = record { list = rw (part.of_put (set (of r) i y) r) (map_again d p.list h q); others = part.put_put [] (set (of r) i y) r ∙ p.others }
-
-  -- where f changes nothing, nothing has to be put
-  pub pass_over : {r₀ r : R} {i : ℕ} (d : A) → Passed of put n f r₀ r i → i < n → get_or (of r) i d ≡ f (get_or (of r) i d) → Passed of put n f r₀ r (i + 1)
-  pass_over {r₀} {r} {i} d p h q = record { list = rw (set-get_or (of r) i d) at (map_again d p.list h q); others = p.others }
-
-  pub pass_done : {r₀ r : R} {i : ℕ} → Passed of put n f r₀ r i → n ≤ i → r ≡ put (map f (of r₀)) r₀
-  pass_done {r₀} {r} p h =
-      sym (part.put_of r) ∙ ap (λ xs. put xs r) (rewrite_done p.list h refl)
-      ∙ sym (part.put_put (map f (of r₀)) [] r) ∙ ap (put (map f (of r₀))) p.others ∙ part.put_put (map f (of r₀)) [] r₀
-
 -- ── an array that is filled from another, side by side ──────────────────────────────────────────────────────────
 
 pub record Filled {A B : Type 0} (f : ℕ → List A → List B) (n : ℕ) (l : List A) (out : List B) (i : ℕ) : Type 0 where
@@ -302,7 +236,3 @@ module _ {A B : Type 0} {f : ℕ → List A → List B} {n : ℕ} {l : List A} w
   fill_done {out} {i} p h e =
       let z : i ≡ n = omega arith in
       sym (append-nil out) ∙ ahead_done p.ahead (array_over l p.long h) (rw (z, take_all n out (omega arith), e))
-
--- with f(x) for each x
-pub fill_map : {A B : Type 0} (f : A → B) {n : ℕ} {l : List A} {out : List B} {i : ℕ} {y : B} (d : A) → Filled (λ k. map f) n l out i → i < n → y ≡ f (get_or l i d) → Filled (λ k. map f) n l (set out i y) (i + 1)
-fill_map f d p h q = fill_again d p h (λ xs. ap (λ z. z ∷ map f xs) (sym q))

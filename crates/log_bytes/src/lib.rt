@@ -8,11 +8,10 @@ ghost use Rattle.std.specs.Prelude.{◌≡◌, ◌+◌, get_or, set};
 pub fn byte(log: &[u8], at: usize, from: u16, i: u16) -> u8
     ensures { result ≡ get_or log.now (at + (from + i)) 0 }
 {
-    let k = (from as usize) + (i as usize);
-    if at < log.len() {
-        if k < log.len() - at { log[at + k] } else { 0 }
-    } else {
-        0
+    let k = usize::from(from) + usize::from(i);
+    match at.checked_add(k) {
+        Some(place) => log.get(place).copied().unwrap_or(0),
+        None => 0,
     }
 }
 

@@ -15,34 +15,20 @@ fn header_byte(i: u16) -> u8
     ensures { result ≡ get_or header i 0 }
 {
     let header = [0x52u8, 0x54, 0x4C, 1, 0, 0, 0, 0];
-    if i < HEADER { header[i as usize] } else { 0 }
+    header.get(i as usize).copied().unwrap_or(0)
 }
 
 // Whether the first n bytes are the header's.
 pub fn begins_header(log: &[u8], n: u16) -> bool
     ensures { result ≡ same_bytes (bytes_at log.now 0 n) (bytes_at header 0 n) }
 {
-    let mut i: u16 = 0;
-    while i < n {
-        let b = log_bytes::byte(log, 0, 0, i);
-        let h = header_byte(i);
-        let equal = b == h;
-        i += 1;
-        if equal {} else {
-            return false;
-        }
-    }
-    true
+    (0..n).all(|i| log_bytes::byte(log, 0, 0, i) == header_byte(i))
 }
 
 pub fn write_header(log: &mut [u8])
     ensures { log.new ≡ written 0 header log.old }
 {
-    let mut i: u16 = 0;
-    while i < HEADER {
-        let h = header_byte(i);
-        let k = i as usize;
-        log_bytes::put(log, k, h);
-        i += 1;
+    for i in 0..HEADER {
+        log_bytes::put(log, i as usize, header_byte(i));
     }
 }

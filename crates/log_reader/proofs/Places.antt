@@ -1,10 +1,9 @@
 -- Reading at places: the bytes from a place on come one after the other, whichever sum gives the place of each.
-use Prim.Native.Nat.{ℕ, suc, ◌+◌, ◌<◌}
+use Prim.Native.Nat.{ℕ, zero, suc, ◌+◌, ◌<◌}
 use native.Mathlib.Omega.{arith}
 use mathlib.Core.Path.{◌≡◌, refl}
 use mathlib.Core.List.{List, [], ◌∷◌}
-use lib.ListN.{length, get_or, set}
-use Rattle.lists.proofs.Loops.{Rewritten, rewrite_again}
+use lib.ListN.{length, get_or}
 use Rattle.rules.specs.Log.{number4}
 use Rattle.log_reader.specs.Reading.{bytes_at}
 
@@ -19,20 +18,15 @@ four_bytes log at from p q r s =
     let k3 : at + (from + 3) ≡ suc (suc (suc (at + from))) = omega arith in
     rw (p, q, r, s, k0, k1, k2, k3)
 
--- n bytes, put one by one: what is still to be put, behind those that are put, is the whole
-abbrev pub Put : List ℕ → ℕ → ℕ → ℕ → List ℕ → ℕ → Type 0
-Put log at from n id i = Rewritten n (λ xs. bytes_at log (at + (from + i)) (length xs)) (bytes_at log (at + from) n) id i
-
-pub put_start : (log : List ℕ) (at from : ℕ) {n : ℕ} {id : List ℕ} → length id ≡ n → Put log at from n id 0
-unfolding Rattle.lists.proofs.Loops.rest_from
-put_start log at from h = record { within = omega arith; long = h; same = let k : from + 0 ≡ from = omega arith in rw (h, k) }
-
-pub put_again : (log : List ℕ) (at from : ℕ) {n : ℕ} {id : List ℕ} {i b : ℕ} → Put log at from n id i → i < n → b ≡ get_or log (at + (from + i)) 0 → Put log at from n (set id i b) (i + 1)
+-- n bytes, each of which is what stands at its place
+pub bytes_there : (log : List ℕ) (n p : ℕ) (id : List ℕ) → length id ≡ n → ((i : ℕ) → i < n → get_or id i 0 ≡ get_or log (p + i) 0) → id ≡ bytes_at log p n
 unfolding bytes_at
-put_again log at from {i = i} p h e =
-    let k : suc (at + (from + i)) ≡ at + (from + (i + 1)) = omega arith in
-    rewrite_again 0 p h (λ xs. rw (e, k))
-
-pub put_none : (log : List ℕ) (p : ℕ) → bytes_at log p 0 ≡ []
-unfolding bytes_at
-put_none log p = refl
+bytes_there log zero p [] e f = refl
+bytes_there log zero p (x ∷ xs) e f = absurd (omega arith)
+bytes_there log (suc n) p [] e f = absurd (omega arith)
+bytes_there log (suc n) p (x ∷ xs) e f =
+    let k : p + 0 ≡ p = omega arith in
+    let first : x ≡ get_or log p 0 = rw k at (f 0 (omega arith)) in
+    let rest : xs ≡ bytes_at log (suc p) n =
+    bytes_there log n (suc p) xs (omega arith) (λ i h. let q : p + suc i ≡ suc p + i = omega arith in rw q at (f (suc i) (omega arith))) in
+    rw (← first, ← rest)

@@ -2,12 +2,13 @@
 
 #![tactic(auto)]
 
-ghost use Rattle.std.specs.Prelude.{◌≡◌, ◌+◌, ◌-◌, get_or};
+ghost use Rattle.std.specs.Prelude.{◌≡◌, ◌+◌, ◌<◌, get_or, MatchOption};
 ghost use Rattle.rules.specs.Sizes.{identifier_size};
 ghost use Rattle.rules.specs.Log.{number4, size_of};
 ghost use Rattle.log_reader.specs.Reading.{bytes_at, identifier_at, manager_at, number_at, entries_count, is_commit_at, whole_at, none_at};
 
 use rules::sizes;
+use std::array;
 
 const RECORD: u16 = sizes::RECORD as u16;
 
@@ -21,15 +22,7 @@ const NUMBER: u16 = RECORD + IDENTIFIER;
 fn identifier_from(log: &[u8], at: usize, from: u16) -> [u8; 16]
     ensures { result ≡ bytes_at log.now (at + from) identifier_size }
 {
-    let mut id = [0u8; 16];
-    let mut i: u16 = 0;
-    while i < IDENTIFIER {
-        let b = log_bytes::byte(log, at, from, i);
-        let k = i as usize;
-        id[k] = b;
-        i += 1;
-    }
-    id
+    array::from_fn(|i| log_bytes::byte(log, at, from, i as u16))
 }
 
 // Of 4 bytes, low first.
@@ -67,8 +60,7 @@ pub fn number_at(log: &[u8], at: usize, j: u8) -> u32
 pub fn is_commit(log: &[u8], at: usize) -> bool
     ensures { result ≡ is_commit_at log.now at }
 {
-    let b = log_bytes::byte(log, at, 0, 0);
-    b == first_bytes::COMMIT
+    log_bytes::byte(log, at, 0, 0) == first_bytes::COMMIT
 }
 
 // How many entries it has, if it is a commit record.
@@ -80,51 +72,38 @@ pub fn entries_count(log: &[u8], at: usize) -> u8
 
 // ---- What the stored bytes hold from a place on.
 
-fn left(stored: usize, at: usize) -> usize
-    ensures { result ≡ stored - at }
+fn size_at(log: &[u8], at: usize) -> Option<usize>
+    ensures { let size = size_of (get_or log.now at 0) (get_or log.now (at + 1) 0) in
+        MatchOption result (size ≡ 0) (λ n. (n ≡ size) × (0 < n)) }
 {
-    if at <= stored { stored - at } else { 0 }
+    first_bytes::size_of(
+        log_bytes::byte(log, at, 0, 0),
+        log_bytes::byte(log, at, 1, 0),
+    )
 }
 
-fn size_at(log: &[u8], at: usize) -> usize
-    ensures { result ≡ size_of (get_or log.now at 0) (get_or log.now (at + 1) 0) }
+// The size of the record that stands there whole, None if none does.
+pub fn whole_at(log: &[u8], stored: usize, at: usize) -> Option<usize>
+    ensures { MatchOption result (whole_at log.now stored at ≡ 0) (λ size. (size ≡ whole_at log.now stored at) × (0 < size)) }
 {
-    let b = log_bytes::byte(log, at, 0, 0);
-    let c = log_bytes::byte(log, at, 1, 0);
-    first_bytes::size_of(b, c)
-}
-
-// The size of the record that stands there whole, 0 if none does.
-pub fn whole_at(log: &[u8], stored: usize, at: usize) -> usize
-    ensures { result ≡ whole_at log.now stored at }
-{
-    let left = left(stored, at);
-    let short = left < 2;
-    if short {
-        return 0;
+    let left = stored.saturating_sub(at);
+    if left < 2 {
+        return None;
     }
-    let size = size_at(log, at);
-    let torn = left < size;
-    if torn {
-        return 0;
+    let size = size_at(log, at)?;
+    if left < size {
+        return None;
     }
-    size
+    Some(size)
 }
 
 // Whether no record begins there; one that is torn does begin.
 pub fn none_at(log: &[u8], stored: usize, at: usize) -> bool
     ensures { result ≡ none_at log.now stored at }
 {
-    let left = left(stored, at);
-    let over = left == 0;
-    if over {
-        return false;
+    match stored.saturating_sub(at) {
+        0 => false,
+        1 => first_bytes::begins_none(log_bytes::byte(log, at, 0, 0)),
+        _ => size_at(log, at).is_none(),
     }
-    let single = left == 1;
-    if single {
-        let b = log_bytes::byte(log, at, 0, 0);
-        return first_bytes::begins_none(b);
-    }
-    let size = size_at(log, at);
-    size == 0
 }

@@ -14,21 +14,20 @@ use rules::{FollowUp, Name, Reaction, enlistment_state, kinds};
 fn to_lost_prepared(kind: u8) -> Reaction
     ensures { result ≡ cond (durable_kind kind) (reaction.Becomes enlistment.prepared_lost then.Nothing) (reaction.Becomes enlistment.done then.Abort) }
 {
-    let durable = kind == kinds::DURABLE;
     let lost = Reaction::Becomes(enlistment_state::PREPARED_LOST, FollowUp::Nothing);
     let no = Reaction::Becomes(enlistment_state::DONE, FollowUp::Abort);
-    if durable { lost } else { no }
+    if kind == kinds::DURABLE { lost } else { no }
 }
 
 fn to_lost_told(kind: u8) -> Reaction
     ensures { result ≡ cond (durable_kind kind) (reaction.Becomes enlistment.failed_to_notify then.Nothing) (reaction.Becomes enlistment.done then.End) }
 {
-    let durable = kind == kinds::DURABLE;
     let failed = Reaction::Becomes(enlistment_state::FAILED_TO_NOTIFY, FollowUp::Nothing);
     let done = Reaction::Becomes(enlistment_state::DONE, FollowUp::End);
-    if durable { failed } else { done }
+    if kind == kinds::DURABLE { failed } else { done }
 }
 
+#[tactic(auto, unfolding(rules::specs::Events::to_lost))]
 pub fn to_lost(kind: u8, state: u8) -> Reaction
     ensures { result ≡ to_lost kind state }
 {

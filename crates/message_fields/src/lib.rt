@@ -48,11 +48,7 @@ pub fn identifier_at(bytes: &[u8], start: usize) -> [u8; IDENTIFIER]
     ensures { result ≡ identifier_in start bytes.now }
 {
     let mut id = [0u8; IDENTIFIER];
-    let mut i: usize = 0;
-    while i < IDENTIFIER {
-        id[i] = bytes[start + i];
-        i += 1;
-    }
+    id.copy_from_slice(&bytes[start..start + IDENTIFIER]);
     id
 }
 
@@ -63,19 +59,12 @@ pub fn put_field(memory: &mut [u8], start: usize, n: u32)
     ensures { memory.new ≡ sets memory.old start (low4 n) }
 {
     let low = basics::low_of(n);
-    memory[start] = low[0];
-    memory[start + 1] = low[1];
-    memory[start + 2] = low[2];
-    memory[start + 3] = low[3];
+    memory[start..start + 4].copy_from_slice(&low);
 }
 
 pub fn put_identifier(memory: &mut [u8], start: usize, id: [u8; IDENTIFIER])
     requires { start + identifier_size ≤ length memory.old }
     ensures { (memory.new ≡ sets memory.old start id) × (length id ≡ identifier_size) }
 {
-    let mut i: usize = 0;
-    while i < IDENTIFIER {
-        memory[start + i] = id[i];
-        i += 1;
-    }
+    memory[start..start + IDENTIFIER].copy_from_slice(&id);
 }

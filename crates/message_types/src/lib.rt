@@ -3,6 +3,7 @@
 #![tactic(auto)]
 
 ghost use Rattle.std.specs.Prelude.{◌≡◌};
+ghost use Rattle.std.specs.Option.{is_some, unwrap_or};
 ghost use Rattle.rules.specs.Messages.{is_type, payload_of};
 
 use rules::{message_type, sizes};
@@ -20,10 +21,8 @@ pub const TRANSACTION: u32 = sizes::IDENTIFIER as u32;
 
 pub const MANAGER: u32 = 2 * TRANSACTION;
 
-const COUNT: usize = 8;
-
 // The eight, with their payload lengths: the reader and the writer go by it.
-const TYPES: [MessageType; COUNT] = [
+const TYPES: [MessageType; 8] = [
     MessageType {
         kind: message_type::CREATE_RM,
         payload: MANAGER,
@@ -58,30 +57,12 @@ const TYPES: [MessageType; COUNT] = [
     },
 ];
 
-// Whether a type is one of the eight, and its payload length, 0 if it is none.
-#[derive(Clone, Copy)]
-pub struct Payload {
-    pub known: bool,
-    pub length: u32,
-}
-
-pub fn payload_of(kind: u32) -> Payload
-    ensures { (result.known ≡ is_type kind) × (result.length ≡ payload_of kind) }
+// None of a type that is none of the eight.
+pub fn payload_of(kind: u32) -> Option<u32>
+    ensures { (is_some result ≡ is_type kind) × (unwrap_or result 0 ≡ payload_of kind) }
 {
-    let mut i: usize = 0;
-    while i < COUNT {
-        let row = TYPES[i];
-        let same = row.kind == kind;
-        if same {
-            return Payload {
-                known: true,
-                length: row.payload,
-            };
-        }
-        i += 1;
-    }
-    Payload {
-        known: false,
-        length: NOTHING,
-    }
+    TYPES
+        .iter()
+        .find(|row| row.kind == kind)
+        .map(|row| row.payload)
 }

@@ -1,11 +1,9 @@
 -- What the reader and the writer promise, and the pieces that a message is written in.
 use Rattle.std.specs.Prelude.{ℕ, ◌≡◌, List, ◌++◌}
 use Rattle.rules.specs.declared.Message.{Message}
-use Rattle.rules.specs.declared.Read.{Read}
-use Rattle.rules.specs.declared.Written.{Written}
 use Rattle.rules.specs.Log.{low4}
 use Rattle.rules.specs.MessageType.{tag}
-use Rattle.rules.specs.Messages.{read_of, write_of, written_of}
+use Rattle.rules.specs.Messages.{Read, Written, read_of, write_of, written_of}
 
 -- the answer to these bytes
 abbrev pub IsReading : List ℕ → Read → Type 0

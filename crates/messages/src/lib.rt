@@ -5,7 +5,7 @@
 ghost use Rattle.std.specs.Prelude.{◌≡◌, true, ◌+◌, ◌≤◌, length};
 ghost use Rattle.std.proofs.lemmas.List.Edits.{sets};
 ghost use Rattle.rules.specs.Sizes.{identifier_size, message_header_size};
-ghost use Rattle.rules.specs.Messages.{payload_of, identifier_in, where_there, is_message, message_in, no_message, payload_bytes};
+ghost use Rattle.rules.specs.Messages.{payload_of, identifier_in, where_there, is_message, message_in, payload_bytes, read_answer, written_answer};
 ghost use Rattle.messages.specs.Promises.{IsReading, IsWriting, header_bytes};
 
 use message_fields::{
@@ -13,7 +13,7 @@ use message_fields::{
 };
 use message_types::{MANAGER, TRANSACTION};
 use rules::sizes::IDENTIFIER;
-use rules::{Message, Read, RmId, SessionId, TxId, Written, message_type, refusal, sizes};
+use rules::{Message, Refusal, RmId, SessionId, TxId, message_type, sizes};
 
 // ---- The reader.
 
@@ -34,9 +34,9 @@ fn message_in(bytes: &[u8]) -> Message
     ensures { result ≡ message_in bytes.now }
 {
     let kind = message_fields::field_at(bytes, TYPE_AT);
-    let payload = message_types::payload_of(kind);
-    let transaction = payload.length == TRANSACTION;
-    let manager = payload.length == MANAGER;
+    let payload = message_types::payload_of(kind).unwrap_or(0);
+    let transaction = payload == TRANSACTION;
+    let manager = payload == MANAGER;
     Message {
         master: message_fields::field_at(bytes, MASTER_AT),
         connection: message_fields::field_at(bytes, CONNECTION_AT),
@@ -48,38 +48,16 @@ fn message_in(bytes: &[u8]) -> Message
     }
 }
 
-fn no_message() -> Message
-    ensures { result ≡ no_message }
-{
-    Message {
-        master: 0,
-        connection: 0,
-        kind: 0,
-        reserved: 0,
-        tx: TxId([0u8; IDENTIFIER]),
-        rm: RmId([0u8; IDENTIFIER]),
-        session: SessionId([0u8; IDENTIFIER]),
-    }
-}
-
 // Laws of rules/proofs/MessageLaws.antt: an accepted message writes back to its own bytes (accepted_writes_back); what is accepted is
-// what the writer writes, and nothing else (accepted_is_written, written_is_accepted); any other bytes give 14 and the all-zero message
-// (read_refused). Two answers that meet the promise coincide: proofs/Coincide.antt, readings_coincide.
-pub fn read_message(bytes: &[u8]) -> Read
-    ensures { IsReading bytes.now result }
+// what the writer writes, and nothing else (accepted_is_written, written_is_accepted); any other bytes are refused, by 14 and the all-zero
+// message of document 01 (read_refused). Two results that meet the promise are equal: proofs/Coincide.antt, read_results_coincide.
+pub fn read_message(bytes: &[u8]) -> Result<Message, Refusal>
+    ensures { IsReading bytes.now (read_answer result) }
 {
-    let good = message_tests::is_message(bytes);
-    if good {
-        Read {
-            refusal: refusal::ACCEPTED,
-            message: message_in(bytes),
-        }
-    } else {
-        Read {
-            refusal: refusal::BAD_MESSAGE,
-            message: no_message(),
-        }
+    if !message_tests::is_message(bytes) {
+        return Err(Refusal::BadMessage);
     }
+    Ok(message_in(bytes))
 }
 
 // ---- The writer.
@@ -100,47 +78,27 @@ fn put_payload(memory: &mut [u8], message: Message, payload: u32)
     requires { (payload ≡ payload_of message.kind) × (message_header_size + payload ≤ length memory.old) }
     ensures { (memory.new ≡ sets memory.old message_header_size (payload_bytes message)) × (length (payload_bytes message) ≡ payload) }
 {
-    let manager = payload == MANAGER;
-    if manager {
-        let rm = message.rm;
-        let rm_id = rm.0;
-        message_fields::put_identifier(memory, PAYLOAD_AT, rm_id);
-        let session = message.session;
-        let session_id = session.0;
-        message_fields::put_identifier(memory, SESSION_AT, session_id);
-        return;
-    }
-    let transaction = payload == TRANSACTION;
-    if transaction {
-        let tx = message.tx;
-        let tx_id = tx.0;
-        message_fields::put_identifier(memory, PAYLOAD_AT, tx_id);
-        return;
+    if payload == MANAGER {
+        message_fields::put_identifier(memory, PAYLOAD_AT, message.rm.0);
+        message_fields::put_identifier(memory, SESSION_AT, message.session.0);
+    } else if payload == TRANSACTION {
+        message_fields::put_identifier(memory, PAYLOAD_AT, message.tx.0);
     }
 }
 
 // Laws of rules/proofs/MessageLaws.antt: a written message reads back to itself (written_reads_back); what is accepted has the room
 // (accepted_has_room) and is what the reader gives, and nothing else is accepted (accepted_is_read, read_is_accepted); any other call
-// gives 14, length 0 and the memory as it was (write_refused). Two answers that meet the promise coincide: proofs/Coincide.antt,
-// writings_coincide.
-pub fn write_message(message: Message, memory: &mut [u8]) -> Written
-    ensures { IsWriting message memory.old result memory.new }
+// is refused, by 14 and length 0 of document 01, with the memory as it was (write_refused). Two results that meet the promise are equal:
+// proofs/Coincide.antt, written_results_coincide.
+pub fn write_message(message: Message, memory: &mut [u8]) -> Result<usize, Refusal>
+    ensures { IsWriting message memory.old (written_answer result) memory.new }
 {
-    let payload = message_types::payload_of(message.kind);
-    let payload_length = payload.length;
-    let length = sizes::MESSAGE_HEADER + payload_length as usize;
-    let good = message_tests::fits(message, length, memory.len());
-    if good {
-        put_header(memory, message, payload_length);
-        put_payload(memory, message, payload_length);
-        Written {
-            refusal: refusal::ACCEPTED,
-            length,
-        }
-    } else {
-        Written {
-            refusal: refusal::BAD_MESSAGE,
-            length: 0,
-        }
+    let payload = message_types::payload_of(message.kind).unwrap_or(0);
+    let length = sizes::MESSAGE_HEADER + payload as usize;
+    if !message_tests::fits(message, length, memory.len()) {
+        return Err(Refusal::BadMessage);
     }
+    put_header(memory, message, payload);
+    put_payload(memory, message, payload);
+    Ok(length)
 }

@@ -9,7 +9,7 @@ ghost use Rattle.std.specs.Prelude.{◌≤◌, ◌<◌};
 
 use message_fields::{CONNECTION_AT, LENGTH_AT, MASTER_AT, RESERVED_AT, TAG_AT, TYPE_AT};
 use rules::sizes::IDENTIFIER;
-use rules::{Message, RmId, SessionId, TxId, Written, message_type};
+use rules::{Message, RmId, SessionId, TxId, message_type, refusal_number};
 
 // Section 4.2.3, PARTNERTM_BRANCH_MTAG_BRANCHING: MsgTag, fIsMaster, dwConnectionId, dwUserMsgType, dwcbVarLenData, dwReserved1, and
 // guidTx 4046037e-9722-46c9-9883-99062341cb35.
@@ -53,11 +53,19 @@ const ROOM: usize = 58;
 // What the writer is lent.
 const UNWRITTEN: u8 = 0xee;
 
+const NO_MESSAGE: Message = Message {
+    master: 0,
+    connection: 0,
+    kind: 0,
+    reserved: 0,
+    tx: TxId([0; IDENTIFIER]),
+    rm: RmId([0; IDENTIFIER]),
+    session: SessionId([0; IDENTIFIER]),
+};
+
 fn print_bytes(bytes: &[u8]) {
-    let mut i: usize = 0;
-    while i < bytes.len() {
-        io::print_hex(1, basics::wide(bytes[i]) as u64, 2);
-        i += 1;
+    for b in bytes {
+        io::print_hex(1, u64::from(*b), 2);
     }
 }
 
@@ -68,7 +76,7 @@ fn print_identifier(name: &[u8], id: [u8; IDENTIFIER]) {
 
 fn print_field(name: &[u8], n: u32) {
     io::write_all(1, name);
-    io::print_hex(1, n as u64, 8);
+    io::print_hex(1, u64::from(n), 8);
 }
 
 fn print_number(name: &[u8], n: u64) {
@@ -76,42 +84,14 @@ fn print_number(name: &[u8], n: u64) {
     io::print_decimal(1, n);
 }
 
-// Short functions, here and below: a long one is slower to prove than its parts.
-fn print_header(m: Message) {
-    print_number(b" master ", m.master as u64);
+fn print_message(m: Message) {
+    print_number(b" master ", u64::from(m.master));
     print_field(b" connection ", m.connection);
-}
-
-fn print_type(m: Message) {
     print_field(b" type ", m.kind);
     print_field(b" reserved ", m.reserved);
-}
-
-fn print_transaction(m: Message) {
-    let tx = m.tx;
-    let id = tx.0;
-    print_identifier(b" tx ", id);
-}
-
-fn print_manager(m: Message) {
-    let rm = m.rm;
-    let rm_id = rm.0;
-    print_identifier(b" rm ", rm_id);
-    let session = m.session;
-    let session_id = session.0;
-    print_identifier(b" session ", session_id);
-}
-
-fn print_message(m: Message) {
-    print_header(m);
-    print_type(m);
-    print_transaction(m);
-    print_manager(m);
-}
-
-fn print_written(w: Written) {
-    print_number(b" written ", w.refusal as u64);
-    print_number(b" length ", w.length as u64);
+    print_identifier(b" tx ", m.tx.0);
+    print_identifier(b" rm ", m.rm.0);
+    print_identifier(b" session ", m.session.0);
 }
 
 fn print_memory(memory: &[u8]) {
@@ -121,19 +101,25 @@ fn print_memory(memory: &[u8]) {
 }
 
 fn show_written(m: Message, memory: &mut [u8]) {
-    let w = messages::write_message(m, memory);
-    print_written(w);
+    let (refusal, length) = match messages::write_message(m, memory) {
+        Ok(length) => (refusal_number::ACCEPTED, length),
+        Err(refusal) => (u8::from(refusal), 0),
+    };
+    print_number(b" written ", u64::from(refusal));
+    print_number(b" length ", length as u64);
     print_memory(memory);
 }
 
+// As document 01 has it, a refused reader gives an all-zero message.
 fn show(name: &[u8], bytes: &[u8]) {
-    let r = messages::read_message(bytes);
+    let (refusal, m) = match messages::read_message(bytes) {
+        Ok(m) => (refusal_number::ACCEPTED, m),
+        Err(refusal) => (u8::from(refusal), NO_MESSAGE),
+    };
     io::write_all(1, name);
-    print_number(b" read ", r.refusal as u64);
-    let m = r.message;
+    print_number(b" read ", u64::from(refusal));
     print_message(m);
-    let mut memory = [UNWRITTEN; ROOM];
-    show_written(m, &mut memory);
+    show_written(m, &mut [UNWRITTEN; ROOM]);
 }
 
 // The vectors above, with another byte, another type, or less of it.
@@ -186,8 +172,7 @@ fn other_connection() -> [u8; 40] {
 }
 
 fn connection_kept() {
-    let v = other_connection();
-    show(b"connection-kept", &v);
+    show(b"connection-kept", &other_connection());
 }
 
 fn reserved_kept() {
@@ -269,33 +254,28 @@ fn written(name: &[u8], m: Message, memory: &mut [u8]) {
     show_written(m, memory);
 }
 
+// The sample, as it is read.
 fn branching_message() -> Message {
-    let r = messages::read_message(&BRANCHING);
-    r.message
+    messages::read_message(&BRANCHING).unwrap_or(NO_MESSAGE)
 }
 
 fn rooms() {
     let m = branching_message();
-    let mut enough = [UNWRITTEN; 40];
-    written(b"room-of-40", m, &mut enough);
-    let mut few = [UNWRITTEN; 39];
-    written(b"room-of-39", m, &mut few);
-    let mut none = [UNWRITTEN; 0];
-    written(b"no-room", m, &mut none);
+    written(b"room-of-40", m, &mut [UNWRITTEN; 40]);
+    written(b"room-of-39", m, &mut [UNWRITTEN; 39]);
+    written(b"no-room", m, &mut [UNWRITTEN; 0]);
 }
 
 fn of_type(name: &[u8], kind: u32) {
     let mut m = branching_message();
     m.kind = kind;
-    let mut memory = [UNWRITTEN; ROOM];
-    written(name, m, &mut memory);
+    written(name, m, &mut [UNWRITTEN; ROOM]);
 }
 
 fn of_master_2() {
     let mut m = branching_message();
     m.master = 2;
-    let mut memory = [UNWRITTEN; ROOM];
-    written(b"write-master-2", m, &mut memory);
+    written(b"write-master-2", m, &mut [UNWRITTEN; ROOM]);
 }
 
 fn unwritable() {
@@ -305,18 +285,14 @@ fn unwritable() {
 
 fn with_rm() {
     let mut m = branching_message();
-    let rm = RmId([7u8; IDENTIFIER]);
-    m.rm = rm;
-    let mut memory = [UNWRITTEN; ROOM];
-    written(b"branching-with-rm", m, &mut memory);
+    m.rm = RmId([7; IDENTIFIER]);
+    written(b"branching-with-rm", m, &mut [UNWRITTEN; ROOM]);
 }
 
 fn with_session() {
     let mut m = branching_message();
-    let session = SessionId([7u8; IDENTIFIER]);
-    m.session = session;
-    let mut memory = [UNWRITTEN; ROOM];
-    written(b"branching-with-session", m, &mut memory);
+    m.session = SessionId([7; IDENTIFIER]);
+    written(b"branching-with-session", m, &mut [UNWRITTEN; ROOM]);
 }
 
 fn foreign_fields() {
@@ -330,10 +306,8 @@ fn foreign_fields() {
 fn zero_fields() {
     let mut create = branching_message();
     create.kind = message_type::CREATE_RM;
-    let tx = TxId([0u8; IDENTIFIER]);
-    create.tx = tx;
-    let mut memory = [UNWRITTEN; ROOM];
-    written(b"create-rm-of-zeros", create, &mut memory);
+    create.tx = TxId([0; IDENTIFIER]);
+    written(b"create-rm-of-zeros", create, &mut [UNWRITTEN; ROOM]);
 }
 
 fn read() {

@@ -1,14 +1,14 @@
 -- Loops over the open records: the next is read from the log, and what is left gives the whole.
 use Prim.Native.Nat.{ℕ, ◌+◌, ◌*◌, ◌≤◌, ◌<◌}
 use native.Mathlib.Omega.{arith}
-use native.Mathlib.Numerals.{add-one}
-use mathlib.Core.Path.{◌≡◌, refl, sym}
+use mathlib.Core.Path.{◌≡◌, refl, sym, ap}
 use mathlib.Core.Bool.{Bool, ◌||◌, or_assoc}
 use mathlib.Core.List.{List, [], ◌∷◌, ◌++◌}
-use lib.ListN.{length, get_or, drop, length-map, length-take, length-append}
-use lib.Seq.{drop-cons, get_or-take}
+use lib.ListN.{length, get_or, drop, length-map, length-append}
+use Rattle.std.specs.List.{list_any}
 use Rattle.lists.specs.Lists.{any}
-use Rattle.lists.proofs.Loops.{drop_done, drop_map, Ahead, ahead_next, ahead_done}
+use Rattle.lists.proofs.Chains.{any_listed}
+use Rattle.lists.proofs.Loops.{drop_at, drop_done, drop_map, Ahead, ahead_next, ahead_done}
 use Rattle.rules.specs.Sizes.{transaction_places}
 use Rattle.rules.specs.Restart.{Open, entries_open}
 use Rattle.rules.specs.Log.{Entry}
@@ -23,23 +23,26 @@ pub opens_long : (log : List ℕ) (rs : OpenRecords) → length (opens_of log rs
 unfolding opens_of
 opens_long log rs = length-map (starts_of rs) (open_at log)
 
--- n is their count
-module _ (rs : OpenRecords) (i : ℕ) {n : ℕ} (e : n ≡ length (starts_of rs)) where
-  pub start_next : i < n → drop i (starts_of rs) ≡ get_or rs.starts i 0 ∷ drop (i + 1) (starts_of rs)
-  start_next h =
-      let k : i < rs.count = omega (arith, length-take rs.count rs.starts) in
-      rw (add-one i, ← get_or-take rs.count rs.starts i 0 k) (drop-cons (starts_of rs) i 0 (omega arith))
+-- their places, as a loop reads them
+module _ (rs : OpenRecords) (i : ℕ) {places : List ℕ} (e : places ≡ starts_of rs) where
+  pub start_next : i < length places → drop i (starts_of rs) ≡ get_or places i 0 ∷ drop (i + 1) (starts_of rs)
+  start_next h = rw (← e) (drop_at places i 0 h)
 
-  pub starts_over : n ≤ i → drop i (starts_of rs) ≡ []
-  starts_over h = drop_done (starts_of rs) i (omega arith)
+  pub starts_over : length places ≤ i → drop i (starts_of rs) ≡ []
+  starts_over h = rw (← e) (drop_done places i h)
 
   module _ (log : List ℕ) where
-    pub open_next : i < n → drop i (opens_of log rs) ≡ open_at log (get_or rs.starts i 0) ∷ drop (i + 1) (opens_of log rs)
+    pub open_next : i < length places → drop i (opens_of log rs) ≡ open_at log (get_or places i 0) ∷ drop (i + 1) (opens_of log rs)
     unfolding opens_of
     open_next h = rw (drop_map (open_at log) i (starts_of rs), drop_map (open_at log) (i + 1) (starts_of rs), start_next h)
 
-    pub opens_over : n ≤ i → drop i (opens_of log rs) ≡ []
-    opens_over h = drop_done (opens_of log rs) i (omega (arith, opens_long log rs))
+    pub opens_over : length places ≤ i → drop i (opens_of log rs) ≡ []
+    opens_over h = drop_done (opens_of log rs) i (omega (arith, opens_long log rs, ap length e))
+
+-- whether one of them passes a test
+pub any_starts : (f : Open → Bool) (log : List ℕ) (rs : OpenRecords) → list_any (λ p. f (open_at log p)) (starts_of rs) ≡ any f (opens_of log rs)
+unfolding opens_of
+any_starts f log rs = any_listed f (open_at log) (starts_of rs)
 
 -- ── the entries of all open records ─────────────────────────────────────────────────────────────────────────────
 

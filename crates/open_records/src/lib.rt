@@ -11,6 +11,7 @@ ghost use Rattle.open_records.specs.Opening.{starts_of, opens_of, none_open, wit
 
 use rules::sizes;
 
+// An array and a count, and no `Vec`: the coordinator has no heap.
 #[derive(Clone, Copy)]
 pub struct OpenRecords {
     // The first count are in use, by order of commit records.
@@ -21,22 +22,23 @@ pub struct OpenRecords {
 pub fn none_open() -> OpenRecords
     ensures { result ≡ none_open }
 {
-    let starts = [0usize; 32];
     OpenRecords {
-        starts: starts,
+        starts: [0; 32],
         count: 0,
     }
+}
+
+// The places that are in use.
+pub fn starts(records: &OpenRecords) -> &[usize]
+    ensures { (result.now ≡ starts_of records.now) × (length result.now ≤ transaction_places) }
+{
+    &records.starts[..records.count.min(sizes::TRANSACTIONS)]
 }
 
 pub fn count_of(records: OpenRecords) -> usize
     ensures { (result ≡ length (starts_of records)) × (result ≤ transaction_places) }
 {
-    let n = records.count;
-    if n <= sizes::TRANSACTIONS {
-        n
-    } else {
-        sizes::TRANSACTIONS
-    }
+    starts(&records).len()
 }
 
 // ---- What the open ones say of another.
@@ -44,64 +46,31 @@ pub fn count_of(records: OpenRecords) -> usize
 pub fn is_open(log: &[u8], records: OpenRecords, id: [u8; 16]) -> bool
     ensures { result ≡ any (is_open_as id) (opens_of log.now records) }
 {
-    let n = count_of(records);
-    let mut i: usize = 0;
-    while i < n {
-        let at = records.starts[i];
-        let other = log_reader::identifier_at(log, at);
-        let same = identifiers::same(other, id);
-        i += 1;
-        if same {
-            return true;
-        }
-    }
-    false
+    starts(&records).iter().any(|at| identifiers::same(log_reader::identifier_at(log, *at), id))
 }
 
 fn is_held(log: &[u8], records: OpenRecords, number: u32) -> bool
     ensures { result ≡ any (λ d. eqb d.number number) (entries_open (opens_of log.now records)) }
 {
-    let n = count_of(records);
-    let mut i: usize = 0;
-    while i < n {
-        let at = records.starts[i];
-        let held = entries::has_number(log, at, number);
-        i += 1;
-        if held {
-            return true;
-        }
-    }
-    false
+    starts(&records)
+        .iter()
+        .any(|at| entries::has_number(log, *at, number))
 }
 
 // Whether one of the numbers of the record at a place is held in an open one.
 pub fn has_held(log: &[u8], records: OpenRecords, at: usize) -> bool
     ensures { result ≡ any (λ e. any (λ d. eqb d.number e.number) (entries_open (opens_of log.now records))) (entries_at log.now at) }
 {
-    let n = log_reader::entries_count(log, at);
-    let mut j: u8 = 0;
-    while j < n {
-        let number = log_reader::number_at(log, at, j);
-        let held = is_held(log, records, number);
-        j += 1;
-        if held {
-            return true;
-        }
-    }
-    false
+    let count = log_reader::entries_count(log, at);
+    (0..count).any(|j| is_held(log, records, log_reader::number_at(log, at, j)))
 }
 
 pub fn entries_open(log: &[u8], records: OpenRecords) -> usize
     ensures { (result ≡ length (entries_open (opens_of log.now records))) × (result ≤ transaction_places * 255) }
 {
-    let n = count_of(records);
     let mut sum: usize = 0;
-    let mut i: usize = 0;
-    while i < n {
-        let at = records.starts[i];
-        let more = log_reader::entries_count(log, at);
-        sum += more as usize;
-        i += 1;
+    for at in starts(&records) {
+        sum += log_reader::entries_count(log, *at) as usize;
     }
     sum
 }
@@ -116,7 +85,7 @@ fn with_start(records: OpenRecords, at: usize) -> OpenRecords
         let mut starts = records.starts;
         starts[n] = at;
         return OpenRecords {
-            starts: starts,
+            starts,
             count: n + 1,
         };
     }
@@ -126,22 +95,19 @@ fn with_start(records: OpenRecords, at: usize) -> OpenRecords
 fn keep_unless(log: &[u8], id: [u8; 16], left: OpenRecords, at: usize) -> OpenRecords
     ensures { result ≡ keep_unless log.now id left at }
 {
-    let other = log_reader::identifier_at(log, at);
-    let same = identifiers::same(other, id);
-    if same { left } else { with_start(left, at) }
+    if identifiers::same(log_reader::identifier_at(log, at), id) {
+        left
+    } else {
+        with_start(left, at)
+    }
 }
 
 fn without(log: &[u8], id: [u8; 16], records: OpenRecords) -> OpenRecords
     ensures { result ≡ kept_from log.now id none_open (starts_of records) }
 {
-    let n = count_of(records);
     let mut left = none_open();
-    let mut i: usize = 0;
-    while i < n {
-        let at = records.starts[i];
-        let next = keep_unless(log, id, left, at);
-        left = next;
-        i += 1;
+    for at in starts(&records) {
+        left = keep_unless(log, id, left, *at);
     }
     left
 }

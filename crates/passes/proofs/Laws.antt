@@ -1,14 +1,15 @@
 -- What one more enlistment, or one more place, adds to a count. Each law splits on the test of the new one.
-use Prim.Native.Nat.{ℕ, suc, ◌-◌, ◌<◌, ◌≤◌}
+use Prim.Native.Nat.{ℕ, ◌+◌, ◌<◌}
+use native.Mathlib.Numerals.{add-one}
 use native.Mathlib.Omega.{arith}
 use mathlib.Core.Path.{◌≡◌}
 use mathlib.Core.Bool.{Bool, cond}
-use mathlib.Core.List.{List, [], ◌∷◌}
-use lib.ListN.{length, drop, length-drop}
+use mathlib.Core.List.{List, [], ◌∷◌, ◌++◌, append-nil}
+use lib.ListN.{length, get_or, take, length-take}
+use Rattle.std.proofs.lemmas.List.{take_more, length_push}
 use Rattle.lists.specs.Lists.{filter, count}
-use Rattle.lists.specs.Places.{places_from}
-use Rattle.lists.proofs.Tests.{by_test, length_filter}
-use Rattle.lists.proofs.Loops.{Gathered, count_most}
+use Rattle.lists.proofs.Tests.{by_test, length_filter, filter_append}
+use Rattle.lists.proofs.Loops.{count_most}
 use Rattle.rules.specs.declared.Enlistment.{Enlistment}
 use Rattle.rules.specs.EnlistmentState as enlistment
 use Rattle.rules.specs.Table.{held_by, is_phase_zero, is_durable, is_marked, is_in, is_done}
@@ -23,9 +24,21 @@ nowhere = record { holder = 0; rm = record { 0 = [] }; number = 0; kind = 0; mar
 abbrev pub census_held : ℕ → List Enlistment → Census
 census_held p es = census_of (filter (held_by p) es)
 
-pub census_more : (p : ℕ) (e : Enlistment) (es : List Enlistment) → census_held p (e ∷ es) ≡ cond (held_by p e) (counted_of e (census_held p es)) (census_held p es)
-unfolding filter census_of counted_of count
-census_more p e es = by_test (held_by p e) (λ t. rw t) (λ t. rw t)
+count_last : {A : Type 0} (f : A → Bool) (xs : List A) (x : A) → count f (xs ++ x ∷ []) ≡ more_of (f x) (count f xs)
+unfolding count
+count_last f [] x = by_test (f x) (λ t. rw t) (λ t. rw t)
+count_last f (y ∷ ys) x = by_test (f y) (λ t. rw (t, count_last f ys x) (by_test (f x) (λ q. rw q) (λ q. rw q))) (λ t. rw t (count_last f ys x))
+
+census_last : (hs : List Enlistment) (e : Enlistment) → census_of (hs ++ e ∷ []) ≡ counted_of e (census_of hs)
+unfolding census_of counted_of
+census_last hs e = rw (count_last is_phase_zero hs e, count_last is_durable hs e, count_last is_marked hs e, count_last (is_in enlistment.preparing) hs e, count_last (is_in enlistment.told_abort) hs e, count_last is_done hs e, length_push hs e, add-one)
+
+-- one more place, behind the first i
+pub census_next : (p : ℕ) (es : List Enlistment) (i : ℕ) (d : Enlistment) → i < length es
+    → census_held p (take (i + 1) es) ≡ cond (held_by p (get_or es i d)) (counted_of (get_or es i d) (census_held p (take i es))) (census_held p (take i es))
+unfolding filter
+census_next p es i d h = rw (take_more es i d h, filter_append (held_by p) (take i es) (get_or es i d ∷ []))
+    (by_test (held_by p (get_or es i d)) (λ t. rw t (census_last (filter (held_by p) (take i es)) (get_or es i d))) (λ t. rw (t, append-nil)))
 
 below : (n : ℕ) (hs : List Enlistment) → length hs < n → Below n (census_of hs)
 unfolding census_of
@@ -39,19 +52,6 @@ below n hs h = record {
   done = omega (arith, count_most is_done hs);
 }
 
--- while some are left, there is room for one more
-pub census_below : (p n m : ℕ) {es : List Enlistment} {c : Census} {i : ℕ} → n ≤ m → Gathered (λ k. census_held p) n es c i → 0 < i → Below m c
-census_below p n m {es} {c} {i} k g h = rw g.same (below m _ (omega (arith, g.within, g.long, length_filter (held_by p) (drop i es), length-drop i es)))
-
-module _ {A : Type 0} (f : ℕ → A → Bool) where
-  pub places_more : (k : ℕ) (x : A) (xs : List A) → length (places_from f k (x ∷ xs)) ≡ more_of (f k x) (length (places_from f (suc k) xs))
-  unfolding places_from
-  places_more k x xs = by_test (f k x) (λ t. rw t) (λ t. rw t)
-
-  places_most : (k : ℕ) (xs : List A) → length (places_from f k xs) ≤ length xs
-  unfolding places_from
-  places_most k [] = omega arith
-  places_most k (x ∷ xs) = let h : length (places_from f (suc k) xs) ≤ length xs = places_most (suc k) xs in by_test (f k x) (λ t. rw t (omega arith)) (λ t. rw t (omega arith))
-
-  pub places_below : (n : ℕ) {l : List A} {m i : ℕ} → Gathered (λ k xs. length (places_from f (suc k) xs)) n l m i → m ≤ n - i
-  places_below n {l} {m} {i} g = omega (arith, g.same, g.within, g.long, places_most (suc i) (drop i l), length-drop i l)
+-- of fewer places than n there is room for one more
+pub census_below : (p n : ℕ) (es : List Enlistment) (i : ℕ) → i < n → Below n (census_held p (take i es))
+census_below p n es i h = below n (filter (held_by p) (take i es)) (omega (arith, length_filter (held_by p) (take i es), length-take i es))

@@ -1,2 +1,2 @@
 pub mod Census
-pub mod Change
+pub mod Computes

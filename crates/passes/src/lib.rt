@@ -2,17 +2,17 @@
 
 #![tactic(auto)]
 
-ghost use Rattle.std.specs.Prelude.{◌≡◌, cond, ◌<◌};
+ghost use Rattle.std.specs.Prelude.{◌≡◌, cond, ◌<◌, ◌≤◌, length};
 ghost use Rattle.rules.specs.Sizes.{enlistment_places};
+ghost use Rattle.lists.specs.Lists.{filter};
 ghost use Rattle.rules.specs.Table.{held, held_by, freed, in_state, on_number};
 ghost use Rattle.rules.specs.Events.{zeroed_of, hears_abort, aborted_of, committed_of};
 ghost use Rattle.passes.specs.Census.{census_of, more_of, counted_of, Below};
-ghost use Rattle.passes.specs.Change.{change_of};
 
-use rules::{Enlistment, Table, enlistment_state, kinds, marks, sizes};
+use rules::{Enlistment, Table, enlistment_state, kinds, marks};
 
 // How many a transaction holds, and how many of them are such.
-#[derive(Clone, Copy)]
+#[derive(Clone, Copy, Default)]
 pub struct Census {
     pub held: u8,
     pub phase_zero: u8,
@@ -31,25 +31,19 @@ pub fn more(n: u8, so: bool) -> u8
     if so { n + 1 } else { n }
 }
 
+#[tactic(auto, unfolding(crate::specs::Census::counted_of))]
 fn counted(c: Census, e: Enlistment) -> Census
     requires { Below enlistment_places c }
     ensures { result ≡ counted_of e c }
 {
-    let held = more(c.held, true);
-    let phase_zero = more(c.phase_zero, e.kind == kinds::PHASE_ZERO);
-    let durable = more(c.durable, e.kind == kinds::DURABLE);
-    let marked = more(c.marked, e.mark == marks::YES);
-    let preparing = more(c.preparing, e.state == enlistment_state::PREPARING);
-    let told_abort = more(c.told_abort, e.state == enlistment_state::TOLD_ABORT);
-    let done = more(c.done, e.state == enlistment_state::DONE);
     Census {
-        held: held,
-        phase_zero: phase_zero,
-        durable: durable,
-        marked: marked,
-        preparing: preparing,
-        told_abort: told_abort,
-        done: done,
+        held: c.held + 1,
+        phase_zero: more(c.phase_zero, e.kind == kinds::PHASE_ZERO),
+        durable: more(c.durable, e.kind == kinds::DURABLE),
+        marked: more(c.marked, e.mark == marks::YES),
+        preparing: more(c.preparing, e.state == enlistment_state::PREPARING),
+        told_abort: more(c.told_abort, e.state == enlistment_state::TOLD_ABORT),
+        done: more(c.done, e.state == enlistment_state::DONE),
     }
 }
 
@@ -57,131 +51,89 @@ pub fn counted_held(c: Census, e: Enlistment, p: u8) -> Census
     requires { Below enlistment_places c }
     ensures { result ≡ cond (held_by p e) (counted_of e c) c }
 {
-    let mine = e.holder == p;
-    if mine { counted(c, e) } else { c }
+    if e.holder == p { counted(c, e) } else { c }
 }
 
-pub fn count_held(table: Table, p: u8) -> Census
-    ensures { result ≡ census_of (held p table) }
+// Of some places, as many as a table has at most.
+pub fn count_among(es: &[Enlistment], p: u8) -> Census
+    requires { length es.now ≤ enlistment_places }
+    ensures { result ≡ census_of (filter (held_by p) es.now) }
 {
-    let mut c = Census {
-        held: 0,
-        phase_zero: 0,
-        durable: 0,
-        marked: 0,
-        preparing: 0,
-        told_abort: 0,
-        done: 0,
-    };
-    let mut i = sizes::ENLISTMENTS;
-    while 0 < i {
-        i -= 1;
-        let e = table.enlistments[i];
-        c = counted_held(c, e, p);
+    let mut c = Census::default();
+    for e in es {
+        c = counted_held(c, *e, p);
     }
     c
 }
 
-// What becomes of an enlistment.
-#[derive(Clone, Copy)]
-pub enum Change {
-    Freed,
-    Becomes(u8),
-    // The one with this number.
-    FreedNumber(u32),
-    NumberBecomes(u32, u8),
-    Zeroed,
-    Aborted,
-    Committed,
+#[tactic(auto, unfolding(rules::specs::Table::held))]
+pub fn count_held(table: Table, p: u8) -> Census
+    ensures { result ≡ census_of (held p table) }
+{
+    count_among(&table.enlistments, p)
 }
+
+// ---- What becomes of an enlistment.
 
 pub fn in_state(e: Enlistment, state: u8) -> Enlistment
     ensures { result ≡ in_state state e }
 {
-    let mut f = e;
-    f.state = state;
-    f
+    Enlistment { state, ..e }
 }
 
-fn freed_number(e: Enlistment, n: u32) -> Enlistment
+// The one with this number.
+pub fn freed_number(e: Enlistment, n: u32) -> Enlistment
     ensures { result ≡ on_number n freed e }
 {
-    let named = e.number == n;
-    if named {
-        return places::no_enlistment();
+    if e.number == n {
+        places::no_enlistment()
+    } else {
+        e
     }
-    e
 }
 
-fn number_becomes(e: Enlistment, n: u32, state: u8) -> Enlistment
+pub fn number_becomes(e: Enlistment, n: u32, state: u8) -> Enlistment
     ensures { result ≡ on_number n (in_state state) e }
 {
-    let named = e.number == n;
-    if named {
-        return in_state(e, state);
-    }
-    e
+    if e.number == n { in_state(e, state) } else { e }
 }
 
-fn zeroed(e: Enlistment) -> Enlistment
+pub fn zeroed(e: Enlistment) -> Enlistment
     ensures { result ≡ zeroed_of e }
 {
-    let phase_zero = e.kind == kinds::PHASE_ZERO;
-    if phase_zero {
-        return in_state(e, enlistment_state::ZERO);
+    if e.kind == kinds::PHASE_ZERO {
+        in_state(e, enlistment_state::ZERO)
+    } else {
+        e
     }
-    e
 }
 
 pub fn hears_abort(e: Enlistment) -> bool
     ensures { result ≡ hears_abort e }
 {
-    let some = 0 < e.state;
-    if some {
-        e.state <= enlistment_state::PREPARED
-    } else {
-        false
-    }
+    0 < e.state && e.state <= enlistment_state::PREPARED
 }
 
-fn aborted(e: Enlistment) -> Enlistment
+#[tactic(auto, unfolding(rules::specs::Events::aborted_of))]
+pub fn aborted(e: Enlistment) -> Enlistment
     ensures { result ≡ aborted_of e }
 {
-    let hears = hears_abort(e);
-    let lost = e.state == enlistment_state::PREPARED_LOST;
-    if hears {
-        return in_state(e, enlistment_state::TOLD_ABORT);
+    if hears_abort(e) {
+        in_state(e, enlistment_state::TOLD_ABORT)
+    } else if e.state == enlistment_state::PREPARED_LOST {
+        in_state(e, enlistment_state::DONE)
+    } else {
+        e
     }
-    if lost {
-        return in_state(e, enlistment_state::DONE);
-    }
-    e
 }
 
-fn committed(e: Enlistment) -> Enlistment
+#[tactic(auto, unfolding(rules::specs::Events::committed_of))]
+pub fn committed(e: Enlistment) -> Enlistment
     ensures { result ≡ committed_of e }
 {
-    let prepared = e.state == enlistment_state::PREPARED;
-    let lost = e.state == enlistment_state::PREPARED_LOST;
-    if prepared {
-        return in_state(e, enlistment_state::TOLD_COMMIT);
-    }
-    if lost {
-        return in_state(e, enlistment_state::FAILED_TO_NOTIFY);
-    }
-    e
-}
-
-pub fn changed(e: Enlistment, change: Change) -> Enlistment
-    ensures { result ≡ change_of change e }
-{
-    match change {
-        Change::Freed => places::no_enlistment(),
-        Change::Becomes(state) => in_state(e, state),
-        Change::FreedNumber(n) => freed_number(e, n),
-        Change::NumberBecomes(n, state) => number_becomes(e, n, state),
-        Change::Zeroed => zeroed(e),
-        Change::Aborted => aborted(e),
-        Change::Committed => committed(e),
+    match e.state {
+        enlistment_state::PREPARED => in_state(e, enlistment_state::TOLD_COMMIT),
+        enlistment_state::PREPARED_LOST => in_state(e, enlistment_state::FAILED_TO_NOTIFY),
+        _ => e,
     }
 }

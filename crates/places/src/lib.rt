@@ -12,9 +12,8 @@ use rules::{Enlistment, RmId, Table, Transaction, TxId, sizes};
 pub fn no_transaction() -> Transaction
     ensures { result ≡ no_transaction }
 {
-    let zeros = [0u8; 16];
     Transaction {
-        id: TxId(zeros),
+        id: TxId([0; 16]),
         state: 0,
     }
 }
@@ -22,10 +21,9 @@ pub fn no_transaction() -> Transaction
 pub fn no_enlistment() -> Enlistment
     ensures { result ≡ no_enlistment }
 {
-    let zeros = [0u8; 16];
     Enlistment {
         holder: 0,
-        rm: RmId(zeros),
+        rm: RmId([0; 16]),
         number: 0,
         kind: 0,
         mark: 0,
@@ -37,15 +35,11 @@ pub fn no_enlistment() -> Enlistment
 pub fn empty(capacity: u32, used: u32) -> Table
     ensures { result ≡ empty_table capacity used }
 {
-    let x = no_transaction();
-    let e = no_enlistment();
-    let transactions = [x; 32];
-    let enlistments = [e; 128];
     Table {
-        transactions: transactions,
-        enlistments: enlistments,
-        capacity: capacity,
-        used: used,
+        transactions: [no_transaction(); 32],
+        enlistments: [no_enlistment(); 128],
+        capacity,
+        used,
     }
 }
 

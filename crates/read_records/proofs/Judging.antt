@@ -8,7 +8,7 @@ use lib.Dec.{eqb, leb}
 use lib.ListN.{length, take, drop, length-append}
 use borrow.Author.Tests.{leb-true}
 use Rattle.lists.specs.Lists.{any, none, differ}
-use Rattle.lists.proofs.Tests.{no_clash, true_and, length_filter}
+use Rattle.lists.proofs.Tests.{true_and, length_filter}
 use Rattle.rules.specs.Sizes.{transaction_places, enlistment_places, header_size}
 use Rattle.rules.specs.Identifiers.{Id, is_zero}
 use Rattle.rules.specs.Log.{Entry, Record, scan, behind, begins_none}
@@ -20,8 +20,9 @@ use Rattle.open_records.specs.declared.OpenRecords.{OpenRecords}
 use Rattle.open_records.specs.Opening.{starts_of, opens_of, none_open, open_behind}
 use Rattle.open_records.proofs.Rows.{opens_long}
 use Rattle.open_records.proofs.Following.{Long, behind_long, behind_opens}
-use Rattle.read_records.specs.declared.Readings.{Readings}
-use Rattle.read_records.specs.Readback.{open_from, damaged_readings, Read}
+use Rattle.std.specs.Prelude.{Ok, Err}
+use Rattle.rules.specs.declared.Refusal.TheVariants.{DamagedLog}
+use Rattle.read_records.specs.Readback.{open_from, Read}
 
 -- ── how many are open ───────────────────────────────────────────────────────────────────────────────────────────
 
@@ -87,8 +88,8 @@ module _ (log : List ℕ) (stored : ℕ) (fits : stored ≤ length log) where
   unfolding opens_of
   reading_start h = record { low = omega arith; within = h; long = refl; few = few_none; fitting = refl; opens = refl; places = refl; behind_all = refl }
 
-  damaged_is : {x : Readings} → x ≡ damaged_readings → is_damaged (body_of log stored) ≡ true → Read log stored x
-  damaged_is {x} e d = record { gives = rw d e; else = λ c. no_clash x.damaged (ap (λ y. y.damaged) e) c }
+  damage : is_damaged (body_of log stored) ≡ true → Read log stored (Err DamagedLog)
+  damage d = record { gives = rw d; else = tt }
 
   module _ {rs : OpenRecords} {p : ℕ} (r : Reading log stored rs p) where
     pub reading_again : {n : ℕ} → whole_at log stored p ≡ n → 0 < n → is_fitting (opens_of log rs) (record_at log p) ≡ true → Reading log stored (open_behind log rs p) (p + n)
@@ -107,11 +108,11 @@ module _ (log : List ℕ) (stored : ℕ) (fits : stored ≤ length log) where
           behind_all = r.behind_all ∙ behind_next log stored fits p n e z;
         }
 
-    pub reading_unfit : {n : ℕ} {x : Readings} → whole_at log stored p ≡ n → 0 < n → is_fitting (opens_of log rs) (record_at log p) ≡ false → x ≡ damaged_readings → Read log stored x
+    pub reading_unfit : {n : ℕ} → whole_at log stored p ≡ n → 0 < n → is_fitting (opens_of log rs) (record_at log p) ≡ false → Read log stored (Err DamagedLog)
     unfolding all_fitting
-    reading_unfit {n} {x} e z f d =
+    reading_unfit {n} e z f =
         let unfit : all_fitting [] (scan 0 (body_of log stored)) ≡ false = rw (scan_next log stored fits p n e z, f) at r.fitting in
-        damaged_is d (rw unfit (or-true (begins_none (behind 0 (body_of log stored)))))
+        damage (rw unfit (or-true (begins_none (behind 0 (body_of log stored)))))
 
     -- no whole record stands there
     module _ (e : whole_at log stored p ≡ 0) where
@@ -127,15 +128,15 @@ module _ (log : List ℕ) (stored : ℕ) (fits : stored ≤ length log) where
           let fit : all_fitting [] (scan 0 (body_of log stored)) ≡ true = rw over at r.fitting in
           rw (fit, rest, none_is log stored fits p r.within) (or-false (begins_none (drop p (take stored log))))
 
-      pub reading_none : {x : Readings} → none_at log stored p ≡ true → x ≡ damaged_readings → Read log stored x
-      reading_none d g = damaged_is g (judged ∙ d)
+      pub reading_none : none_at log stored p ≡ true → Read log stored (Err DamagedLog)
+      reading_none d = damage (judged ∙ d)
 
-      pub reading_done : none_at log stored p ≡ false → Read log stored (record { damaged = false; used = p; records = rs })
+      pub reading_done : none_at log stored p ≡ false → Read log stored (Ok (record { used = p; records = rs }))
       unfolding open_after open_from
       reading_done d =
           let u : p ≡ used_of (body_of log stored) = rw rest (omega (arith, rest_length log stored fits header_size, rest_length log stored fits p, r.low, r.within)) in
           let o : open_from log stored none_open header_size (scan 0 (body_of log stored)) ≡ rs = rw over at r.places in
           record {
             gives = rw (judged ∙ d, o, ← u);
-            else = λ c. record { within = r.within; opens = sym (rw over at r.opens); few = r.few.transactions; few_entries = r.few.entries };
+            else = record { within = r.within; opens = sym (rw over at r.opens); few = r.few.transactions; few_entries = r.few.entries };
           }

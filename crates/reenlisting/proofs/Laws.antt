@@ -33,9 +33,9 @@ use Rattle.holdings.proofs.Within.{passes_through}
 use Rattle.holdings.proofs.Taken.{taken_fits, taken_back}
 use Rattle.rows.specs.Memory.{transaction_in, enlistment_in, table_in}
 use Rattle.lent_tables.proofs.Within.{put_within}
-use Rattle.orders.specs.declared.Order.{Order}
+use Rattle.insertion.specs.declared.Line.{Line}
 use Rattle.orders.specs.Orders.{order_of}
-use Rattle.orders.specs.Which.{is_finished}
+use Rattle.orders.specs.Finished.{is_finished}
 use Rattle.orders.proofs.Laws.{order_take}
 use Rattle.endings.specs.Gives.{Leaves, Ready}
 use Rattle.rules.proofs.Told.{held_done}
@@ -69,16 +69,17 @@ pub record Ended (n : ℕ) (ps : List ℕ) (tb₀ : Table) (log₀ : List ℕ) (
   pub few : Few (table_in heads rows capacity used)
   pub same : end_each ps tb₀ log₀ ≡ end_each (drop i ps) (table_in heads rows capacity used) log
 
-pub ended_start : {n : ℕ} {ps : List ℕ} {log : List ℕ} {capacity used : ℕ} {heads rows : List (List ℕ)} → length ps ≡ n → Each Placed ps → ReadyIn heads rows capacity used
+pub ended_start : {n : ℕ} {ps : List ℕ} {log : List ℕ} {capacity used : ℕ} {heads rows : List (List ℕ)} → length ps ≡ n → Each Placed ps
+    → length heads ≡ transaction_places → length rows ≡ enlistment_places → ReadyIn heads rows capacity used
     → Ended n ps (table_in heads rows capacity used) log capacity heads rows log used 0
-ended_start l h r = record { within = omega arith; long = l; places = h; size = refl; long_heads = r.long_heads; long_rows = r.long_rows; used_most = omega arith; few = r.few; same = refl }
+ended_start l h a b r = record { within = omega arith; long = l; places = h; size = refl; long_heads = a; long_rows = b; used_most = omega arith; few = r.few; same = refl }
 
 module _ {n : ℕ} {ps : List ℕ} {tb₀ : Table} {log₀ : List ℕ} {capacity : ℕ} {heads rows : List (List ℕ)} {log : List ℕ} {used i : ℕ} (e : Ended n ps tb₀ log₀ capacity heads rows log used i) where
   pub ended_done : n ≤ i → LeavesIn (end_each ps tb₀ log₀) heads rows capacity used log
   unfolding end_each
   ended_done h =
       let q : end_each ps tb₀ log₀ ≡ quietly (table_in heads rows capacity used) log = rw (drop_done ps i (omega (arith, e.long))) at e.same in
-      record { long_heads = e.long_heads; long_rows = e.long_rows; table = sym (ap (λ o. o.table) q); log = sym (ap (λ o. o.log) q) }
+      record { table = sym (ap (λ o. o.table) q); log = sym (ap (λ o. o.log) q) }
 
   module _ (more : i < n) (p : ℕ) (here : p ≡ get_or ps i 0) where
     next : drop i ps ≡ p ∷ drop (i + 1) ps
@@ -144,7 +145,7 @@ finished_placed tb l p m =
     (i.low, omega (arith, i.high, l))
 
 module _ (rm : Id) {heads rows : List (List ℕ)} (rows' : List (List ℕ)) {capacity used : ℕ} (ready : ReadyIn heads rows capacity used) {table done : Table} (t : table ≡ table_in heads rows capacity used) (d : done ≡ done_table rm table)
-    (long : length rows' ≡ enlistment_places) (e : map enlistment_in rows' ≡ done.enlistments) where
+    (e : map enlistment_in rows' ≡ done.enlistments) where
   done_is : done ≡ done_table rm (table_in heads rows capacity used)
   done_is = d ∙ ap (done_table rm) t
 
@@ -152,14 +153,14 @@ module _ (rm : Id) {heads rows : List (List ℕ)} (rows' : List (List ℕ)) {cap
   done_table_lem = ap (λ es. record { transactions = map transaction_in heads; enlistments = es; capacity = capacity; used = used }) (e ∙ ap (λ u. u.enlistments) done_is)
 
   pub done_ready : ReadyIn heads rows' capacity used
-  done_ready = record { long_heads = ready.long_heads; long_rows = long; used_first = ready.used_first; few = subst Few (sym done_table_lem) (done_few rm (table_in heads rows capacity used) ready.few) }
+  done_ready = record { used_first = ready.used_first; few = subst Few (sym done_table_lem) (done_few rm (table_in heads rows capacity used) ready.few) }
 
-  module _ {o : Order} (q : o ≡ order_of (finished done)) (few : o.count ≤ transaction_places) where
+  module _ {o : Line ℕ transaction_places} (q : o ≡ order_of (finished done)) (few : o.count ≤ transaction_places) where
     ordered : take o.count o.items ≡ finished (done_table rm (table_in heads rows capacity used))
     ordered = order_take (finished done) q few ∙ ap finished done_is
 
-    pub done_placed : Each Placed (take o.count o.items)
-    done_placed = subst (Each Placed) (sym ordered) (finished_placed (done_table rm (table_in heads rows capacity used)) (length-map heads transaction_in ∙ ready.long_heads))
+    pub done_placed : length heads ≡ transaction_places → Each Placed (take o.count o.items)
+    done_placed long = subst (Each Placed) (sym ordered) (finished_placed (done_table rm (table_in heads rows capacity used)) (length-map heads transaction_in ∙ long))
 
     pub done_leaves : (log : List ℕ) {heads'' rows'' : List (List ℕ)} {u : ℕ} {out : List ℕ} → LeavesIn (end_each (take o.count o.items) (table_in heads rows' capacity used) log) heads'' rows'' capacity u out
         → LeavesIn (reenlisted_of rm (table_in heads rows capacity used) log) heads'' rows'' capacity u out

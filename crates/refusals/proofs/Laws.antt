@@ -1,6 +1,6 @@
--- None passes if and only if no place is found; an enlistment with a number that is not zero is held if and only if the one that is found has it; and a reaction is refused with its own number.
+-- None passes if and only if no place is found, and an enlistment with a number that is not zero is held if and only if the one that is found has it.
 use Prim.Native.Nat.{ℕ}
-use mathlib.Core.Path.{◌≡◌, refl, sym}
+use mathlib.Core.Path.{◌≡◌, sym}
 use mathlib.Core.Bool.{Bool, false, not-not}
 use mathlib.Core.List.{List, [], ◌∷◌}
 use lib.Dec.{eqb}
@@ -11,11 +11,7 @@ use Rattle.lists.proofs.Tests.{by_test}
 use Rattle.lists.proofs.Loops.{any_place}
 use Rattle.rules.specs.declared.Enlistment.{Enlistment}
 use Rattle.rules.specs.declared.Table.{Table}
-use Rattle.rules.specs.declared.Reaction.{Reaction}
-use Rattle.rules.specs.declared.Reaction.TheVariants as reaction
 use Rattle.rules.specs.Table.{no_enlistment, is_numbered, numbered}
-use Rattle.rules.specs.RefusalNumber as refusal
-use Rattle.rules.specs.Refusals.{check, first_of, is_refused, reaction_refusal}
 
 pub none_place : {A : Type 0} (f : A → Bool) (xs : List A) → none f xs ≡ eqb (place_of f xs) 0
 none_place f xs = rw (any_place f xs) (not-not _)
@@ -28,9 +24,3 @@ first_has n (e ∷ es) z = by_test (is_numbered n e) (λ t. rw (t, t)) (λ t. rw
 pub held_has : (n : ℕ) (tb : Table) → eqb n 0 ≡ false → any (is_numbered n) tb.enlistments ≡ eqb (numbered n tb).number n
 unfolding numbered
 held_has n tb z = first_has n tb.enlistments z
-
-pub reaction_last : (r : Reaction) → reaction_refusal r ≡ first_of (check (is_refused r) refusal.enlistment_state ∷ [])
-unfolding first_of
-reaction_last reaction.Refused = refl
-reaction_last (reaction.Freed f) = refl
-reaction_last (reaction.Becomes s f) = refl

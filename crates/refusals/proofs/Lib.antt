@@ -1,3 +1,4 @@
 pub mod Laws
 pub mod Found
 pub mod Events
+pub mod Determined

@@ -1,17 +1,18 @@
 // Why an event is refused: the first check that applies, in the order of document 01. The caller looks up what a check asks of the table: proofs/Found.antt says that the answer is then the table's own.
 
-#![tactic(auto)]
+#![tactic(auto, unfolding(rules::specs::Refusals::first_of))]
 
 ghost use Rattle.std.specs.Prelude.{◌≡◌, ◌&&◌, ◌||◌, eqb, leb};
 ghost use Rattle.rules.specs.Sizes.{held_most};
 ghost use Rattle.rules.specs.Identifiers.{is_zero};
 ghost use Rattle.rules.specs.Table.{durable_kind};
 ghost use Rattle.rules.specs.Events.{reaction_of, is_over};
+ghost use Rattle.rules.specs.RefusalNumber.{answer_number};
 ghost use Rattle.rules.specs.Refusals.{first_of};
 ghost use Rattle.rules.specs.Checks as checks;
 ghost use Rattle.rules.specs.Checks.{is_early};
 
-use rules::{Act, Enlistment, kinds, refusal, sizes, transaction_state};
+use rules::{Act, Enlistment, Reaction, Refusal, kinds, sizes, transaction_state};
 
 // A count is a byte.
 const HELD: u8 = sizes::HELD as u8;
@@ -19,77 +20,62 @@ const HELD: u8 = sizes::HELD as u8;
 fn is_either_zero(a: [u8; 16], b: [u8; 16]) -> bool
     ensures { result ≡ (is_zero a || is_zero b) }
 {
-    let zero = identifiers::is_zero(a);
-    if zero {
-        return true;
-    }
-    identifiers::is_zero(b)
+    identifiers::is_zero(a) || identifiers::is_zero(b)
 }
 
 // Active or Phase Zero.
 fn is_early(state: u8) -> bool
     ensures { result ≡ is_early state }
 {
-    basics::either(
-        state == transaction_state::ACTIVE,
-        state == transaction_state::PHASE_ZERO,
-    )
+    state == transaction_state::ACTIVE || state == transaction_state::PHASE_ZERO
 }
 
 fn is_over(state: u8) -> bool
     ensures { result ≡ is_over state }
 {
-    basics::either(state == 0, state == transaction_state::ABORTING)
+    state == 0 || state == transaction_state::ABORTING
 }
 
 // Whether Enlist finds its number held, or a second durable enlistment of its resource manager in the transaction.
 pub fn is_already_held(held: bool, second: bool, kind: u8) -> bool
     ensures { result ≡ (held || (durable_kind kind && second)) }
 {
-    let durable = kind == kinds::DURABLE;
-    if durable {
-        return basics::either(held, second);
-    }
-    held
+    held || kind == kinds::DURABLE && second
 }
 
 // Whether no place is vacant, or the transaction holds as many as it may.
 pub fn is_full(vacant: u8, held: u8) -> bool
     ensures { result ≡ (eqb vacant 0 || leb held_most held) }
 {
-    basics::either(vacant == 0, HELD <= held)
+    vacant == 0 || HELD <= held
 }
 
-// The checks that are every event's: 0 leaves those of the event.
-pub fn first(sound: bool, lent: usize, capacity: u32) -> u8
-    ensures { result ≡ first_of (checks.first sound lent capacity) }
+// The checks that are every event's: where none applies, those of the event are left.
+pub fn first(sound: bool, lent: usize, capacity: u32) -> Result<(), Refusal>
+    ensures { answer_number result ≡ first_of (checks.first sound lent capacity) }
 {
-    let whole = capacity as usize;
-    if sound {
-        if lent == whole {
-            return refusal::ACCEPTED;
-        }
-        return refusal::LOG_LENGTH;
+    if !sound {
+        return Err(Refusal::NotSound);
     }
-    refusal::NOT_SOUND
+    if lent != capacity as usize {
+        return Err(Refusal::LogLength);
+    }
+    Ok(())
 }
 
-pub fn begin(id: [u8; 16], named: u8, free: u8) -> u8
-    ensures { result ≡ first_of (checks.begin id named (eqb free 0)) }
+pub fn begin(id: [u8; 16], named: u8, free: u8) -> Result<(), Refusal>
+    ensures { answer_number result ≡ first_of (checks.begin id named (eqb free 0)) }
 {
-    let zero = identifiers::is_zero(id);
-    if zero {
-        return refusal::ZERO_NAMED;
+    if identifiers::is_zero(id) {
+        return Err(Refusal::ZeroNamed);
     }
-    let live = named != 0;
-    if live {
-        return refusal::ALREADY_LIVE;
+    if named != 0 {
+        return Err(Refusal::AlreadyLive);
     }
-    let full = free == 0;
-    if full {
-        return refusal::FULL;
+    if free == 0 {
+        return Err(Refusal::Full);
     }
-    refusal::ACCEPTED
+    Ok(())
 }
 
 pub fn enlist(
@@ -100,111 +86,95 @@ pub fn enlist(
     state: u8,
     already: bool,
     full: bool,
-) -> u8
-    ensures { result ≡ first_of (checks.enlist id rm n named state already full) }
+) -> Result<(), Refusal>
+    ensures { answer_number result ≡ first_of (checks.enlist id rm n named state already full) }
 {
-    let either = is_either_zero(id, rm);
-    let zero = basics::either(either, n == 0);
-    if zero {
-        return refusal::ZERO_NAMED;
+    if is_either_zero(id, rm) || n == 0 {
+        return Err(Refusal::ZeroNamed);
     }
-    let dead = named == 0;
-    if dead {
-        return refusal::NOT_LIVE;
+    if named == 0 {
+        return Err(Refusal::NotLive);
     }
-    let early = is_early(state);
-    if early {
-        if already {
-            return refusal::ALREADY_HELD;
-        }
-        if full {
-            return refusal::FULL;
-        }
-        return refusal::ACCEPTED;
+    if !is_early(state) {
+        return Err(Refusal::TransactionState);
     }
-    refusal::TRANSACTION_STATE
+    if already {
+        return Err(Refusal::AlreadyHeld);
+    }
+    if full {
+        return Err(Refusal::Full);
+    }
+    Ok(())
 }
 
-pub fn commit(id: [u8; 16], named: u8, state: u8) -> u8
-    ensures { result ≡ first_of (checks.commit id named state) }
+pub fn commit(id: [u8; 16], named: u8, state: u8) -> Result<(), Refusal>
+    ensures { answer_number result ≡ first_of (checks.commit id named state) }
 {
-    let zero = identifiers::is_zero(id);
-    if zero {
-        return refusal::ZERO_NAMED;
+    if identifiers::is_zero(id) {
+        return Err(Refusal::ZeroNamed);
     }
-    let dead = named == 0;
-    if dead {
-        return refusal::NOT_LIVE;
+    if named == 0 {
+        return Err(Refusal::NotLive);
     }
-    let active = state == transaction_state::ACTIVE;
-    if active {
-        return refusal::ACCEPTED;
+    if state != transaction_state::ACTIVE {
+        return Err(Refusal::TransactionState);
     }
-    refusal::TRANSACTION_STATE
+    Ok(())
 }
 
-pub fn rollback(id: [u8; 16], named: u8, state: u8) -> u8
-    ensures { result ≡ first_of (checks.rollback id named state) }
+pub fn rollback(id: [u8; 16], named: u8, state: u8) -> Result<(), Refusal>
+    ensures { answer_number result ≡ first_of (checks.rollback id named state) }
 {
-    let zero = identifiers::is_zero(id);
-    if zero {
-        return refusal::ZERO_NAMED;
+    if identifiers::is_zero(id) {
+        return Err(Refusal::ZeroNamed);
     }
-    let dead = named == 0;
-    if dead {
-        return refusal::NOT_LIVE;
+    if named == 0 {
+        return Err(Refusal::NotLive);
     }
-    let early = is_early(state);
-    if early {
-        return refusal::ACCEPTED;
+    if !is_early(state) {
+        return Err(Refusal::TransactionState);
     }
-    refusal::TRANSACTION_STATE
+    Ok(())
 }
 
 // Of an event about the enlistment with number n: e is what was found by it.
-pub fn about_one(n: u32, act: Act, e: Enlistment) -> u8
-    ensures { result ≡ first_of (checks.about_one n (eqb e.number n) (reaction_of e.kind e.state act)) }
+pub fn about_one(n: u32, act: Act, e: Enlistment) -> Result<(), Refusal>
+    ensures { answer_number result ≡ first_of (checks.about_one n (eqb e.number n) (reaction_of e.kind e.state act)) }
 {
-    let zero = n == 0;
-    if zero {
-        return refusal::ZERO_NAMED;
+    if n == 0 {
+        return Err(Refusal::ZeroNamed);
     }
-    let missing = e.number != n;
-    if missing {
-        return refusal::NOT_HELD;
+    if e.number != n {
+        return Err(Refusal::NotHeld);
     }
-    let r = reactions::reaction(e.kind, e.state, act);
-    reactions::refusal_of(r)
+    if let Reaction::Refused = reactions::reaction(e.kind, e.state, act) {
+        return Err(Refusal::EnlistmentState);
+    }
+    Ok(())
 }
 
 // `lacks`: the transaction has no durable enlistment of the resource manager that isn't Done.
-pub fn ask(id: [u8; 16], rm: [u8; 16], state: u8, lacks: bool) -> u8
-    ensures { result ≡ first_of (checks.ask id rm state lacks) }
+pub fn ask(id: [u8; 16], rm: [u8; 16], state: u8, lacks: bool) -> Result<(), Refusal>
+    ensures { answer_number result ≡ first_of (checks.ask id rm state lacks) }
 {
-    let zero = is_either_zero(id, rm);
-    if zero {
-        return refusal::ZERO_NAMED;
+    if is_either_zero(id, rm) {
+        return Err(Refusal::ZeroNamed);
     }
-    let over = is_over(state);
-    if over {
-        return refusal::ACCEPTED;
+    if !is_over(state) && lacks {
+        return Err(Refusal::NoSuchDurable);
     }
-    if lacks {
-        return refusal::NO_SUCH_DURABLE;
-    }
-    refusal::ACCEPTED
+    Ok(())
 }
 
 // `elsewhere`: one that isn't Done stands elsewhere than in Failed-to-notify.
-pub fn reenlisted(rm: [u8; 16], elsewhere: bool) -> u8
-    ensures { result ≡ first_of (checks.reenlisted rm elsewhere) }
+pub fn reenlisted(rm: [u8; 16], elsewhere: bool) -> Result<(), Refusal>
+    ensures { answer_number result ≡ first_of (checks.reenlisted rm elsewhere) }
 {
-    let zero = identifiers::is_zero(rm);
-    if zero {
-        return refusal::ZERO_NAMED;
+    if identifiers::is_zero(rm) {
+        return Err(Refusal::ZeroNamed);
     }
     if elsewhere {
-        return refusal::NOT_FAILED_TO_NOTIFY;
+        return Err(Refusal::NotFailedToNotify);
     }
-    refusal::ACCEPTED
+    Ok(())
 }

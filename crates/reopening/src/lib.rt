@@ -18,9 +18,8 @@ use rules::{
 fn transaction_of(log: &[u8], at: usize) -> Transaction
     ensures { result ≡ reopened (open_at log.now at) }
 {
-    let id = log_reader::identifier_at(log, at);
     Transaction {
-        id: TxId(id),
+        id: TxId(log_reader::identifier_at(log, at)),
         state: transaction_state::COMMITTING,
     }
 }
@@ -29,73 +28,52 @@ fn transaction_of(log: &[u8], at: usize) -> Transaction
 fn enlistment_of(log: &[u8], at: usize, j: u8, p: u8) -> Enlistment
     ensures { result ≡ reenlistment p (entry_at log.now at j) }
 {
-    let rm = log_reader::manager_at(log, at, j);
-    let number = log_reader::number_at(log, at, j);
     Enlistment {
         holder: p,
-        rm: RmId(rm),
-        number: number,
+        rm: RmId(log_reader::manager_at(log, at, j)),
+        number: log_reader::number_at(log, at, j),
         kind: kinds::DURABLE,
         mark: marks::NO,
         state: enlistment_state::FAILED_TO_NOTIFY,
     }
 }
 
-pub fn put_transactions(log: &[u8], records: OpenRecords, table: Table) -> Table
+pub fn put_transactions(log: &[u8], records: OpenRecords, mut table: Table) -> Table
     ensures { result ≡ transactions_put (opens_of log.now records) table }
 {
-    let n = open_records::count_of(records);
-    let mut u = table;
-    let mut i: usize = 0;
-    while i < n {
-        let at = records.starts[i];
-        let x = transaction_of(log, at);
-        u.transactions[i] = x;
-        i += 1;
+    for (i, at) in open_records::starts(&records).iter().enumerate() {
+        table.transactions[i] = transaction_of(log, *at);
     }
-    u
+    table
 }
 
-fn put_enlistment(table: Table, k: usize, e: Enlistment) -> Table
+fn put_enlistment(mut table: Table, k: usize, e: Enlistment) -> Table
     ensures { result ≡ with_enlistments (set table.enlistments k e) table }
 {
-    let mut u = table;
     if k < sizes::ENLISTMENTS {
-        u.enlistments[k] = e;
+        table.enlistments[k] = e;
     }
-    u
+    table
 }
 
-fn put_entries(log: &[u8], at: usize, p: u8, k: u16, table: Table) -> Table
+fn put_entries(log: &[u8], at: usize, p: u8, k: u16, mut table: Table) -> Table
     ensures { result ≡ entries_put p (entries_at log.now at) k table }
 {
-    let n = log_reader::entries_count(log, at);
-    let mut u = table;
-    let mut j: u8 = 0;
-    while j < n {
+    for j in 0..log_reader::entries_count(log, at) {
         let e = enlistment_of(log, at, j, p);
-        let next = put_enlistment(u, (k as usize) + (j as usize), e);
-        u = next;
-        j += 1;
+        table = put_enlistment(table, (k as usize) + (j as usize), e);
     }
-    u
+    table
 }
 
-pub fn put_enlistments(log: &[u8], records: OpenRecords, table: Table) -> Table
+pub fn put_enlistments(log: &[u8], records: OpenRecords, mut table: Table) -> Table
     ensures { result ≡ enlistments_put (opens_of log.now records) table }
 {
-    let n = open_records::count_of(records);
-    let mut u = table;
     let mut k: u16 = 0;
-    let mut i: usize = 0;
-    while i < n {
-        let at = records.starts[i];
+    for (i, at) in open_records::starts(&records).iter().enumerate() {
         let p = (i + 1) as u8;
-        let next = put_entries(log, at, p, k, u);
-        u = next;
-        let more = log_reader::entries_count(log, at);
-        k += more as u16;
-        i += 1;
+        table = put_entries(log, *at, p, k, table);
+        k += log_reader::entries_count(log, *at) as u16;
     }
-    u
+    table
 }

@@ -10,7 +10,9 @@ use lib.Seq.{take-take, sets-eq}
 use borrow.Author.Tests.{lt-ltb, le-ltb}
 use Rattle.lists.proofs.Tests.{by_test}
 use Rattle.rules.specs.declared.Table.{Table}
-use Rattle.rules.specs.declared.Restarted.{Restarted}
+use Rattle.std.specs.Prelude.{Ok, Err}
+use Rattle.rules.specs.declared.Refusal.{Refusal}
+use Rattle.rules.specs.declared.Refusal.TheVariants.{DamagedLog}
 use Rattle.rules.specs.RefusalNumber as refusal
 use Rattle.rules.specs.Sizes.{header_size}
 use Rattle.rules.specs.Identifiers.{same_bytes}
@@ -20,10 +22,10 @@ use Rattle.rules.specs.Restart.{open_after, table_of, refused_restart, done_rest
 use Rattle.rules.proofs.Restarts.{inside, read_is}
 use Rattle.log_reader.specs.Reading.{bytes_at}
 use Rattle.log_reader.proofs.Scanning.{bytes_are}
-use Rattle.open_records.specs.Opening.{starts_of, opens_of}
+use Rattle.open_records.specs.Opening.{starts_of, opens_of, none_open}
 use Rattle.open_records.proofs.Rows.{opens_long}
 use Rattle.read_records.specs.declared.Readings.{Readings}
-use Rattle.read_records.specs.Readback.{Read}
+use Rattle.read_records.specs.Readback.{open_from, Read}
 use Rattle.places.specs.Empty.{empty_table}
 use Rattle.reopening.specs.Reopened.{transactions_put, enlistments_put}
 use Rattle.reopening.proofs.Building.{table_is}
@@ -31,37 +33,41 @@ use Rattle.restart.specs.Answers.{refused_as, done_with}
 
 -- ── behind the header ───────────────────────────────────────────────────────────────────────────────────────────
 
-module _ {log : List ℕ} {stored : ℕ} {r : Readings} (read : Read log stored r) where
-  damage : r.damaged ≡ is_damaged (body_of log stored)
-  damage = rw read.gives (by_test (is_damaged (body_of log stored)) (λ t. rw t) (λ t. rw t))
-
-  used_is : is_damaged (body_of log stored) ≡ false → r.used ≡ used_of (body_of log stored)
-  used_is t = rw (read.gives, t)
-
-  pub answer_damaged : {x : Restarted} → r.damaged ≡ true → x ≡ refused_as refusal.damaged_log → x ≡ restarted_of (read_back (body_of log stored) log)
+module _ {log : List ℕ} {stored : ℕ} where
+  pub answer_damaged : {why : Refusal} → Read log stored (Err why) → refused_as (refusal.refusal_number why) ≡ restarted_of (read_back (body_of log stored) log)
   unfolding read_back
-  answer_damaged t e = rw (sym damage ∙ t) e
+  answer_damaged {why} read = by_test (is_damaged (body_of log stored))
+      (λ t. let e : Err why ≡ Err DamagedLog = rw t at read.gives in let w : why ≡ DamagedLog = cc in rw (t, w))
+      (λ t. let e : Err why ≡ Ok (record { used = used_of (body_of log stored); records = open_from log stored none_open header_size (scan 0 (body_of log stored)) }) = rw t at read.gives in absurd (cc))
 
-  module _ {n : ℕ} (t : r.damaged ≡ false) (owed : n ≡ length (starts_of r.records)) where
+module _ {log : List ℕ} {stored : ℕ} {r : Readings} (read : Read log stored (Ok r)) where
+  whole_log : (is_damaged (body_of log stored) ≡ false) × (r.used ≡ used_of (body_of log stored))
+  whole_log = by_test (is_damaged (body_of log stored))
+      (λ t. let e : Ok r ≡ Err DamagedLog = rw t at read.gives in absurd (cc))
+      (λ t.
+      let e : Ok r ≡ Ok (record { used = used_of (body_of log stored); records = open_from log stored none_open header_size (scan 0 (body_of log stored)) }) = rw t at read.gives in
+      let w : r ≡ record { used = used_of (body_of log stored); records = open_from log stored none_open header_size (scan 0 (body_of log stored)) } = cc in
+      (t, ap (λ (x : Readings). x.used) w))
+
+  module _ {n : ℕ} (owed : n ≡ length (starts_of r.records)) where
     counted : r.used + forget_size * n ≡ used_of (body_of log stored) + forget_size * length (open_after [] (scan 0 (body_of log stored)))
     counted =
-        let u = read.else t in
-        let m : n ≡ length (open_after [] (scan 0 (body_of log stored))) = owed ∙ sym (opens_long log r.records) ∙ ap length u.opens in
-        rw (← m, ← used_is (sym damage ∙ t))
+        let m : n ≡ length (open_after [] (scan 0 (body_of log stored))) = owed ∙ sym (opens_long log r.records) ∙ ap length read.else.opens in
+        rw (← m, ← whole_log.1)
 
-    pub answer_short : {x : Restarted} → ltb (length log) (r.used + forget_size * n) ≡ true → x ≡ refused_as refusal.log_too_short → x ≡ restarted_of (read_back (body_of log stored) log)
+    pub answer_short : ltb (length log) (r.used + forget_size * n) ≡ true → refused_as refusal.log_too_short ≡ restarted_of (read_back (body_of log stored) log)
     unfolding read_back
-    answer_short s e = rw (sym damage ∙ t, sym (ap (ltb (length log)) counted) ∙ s) e
+    answer_short s = rw (whole_log.0, sym (ap (ltb (length log)) counted) ∙ s)
 
-    pub answer_done : {x : Restarted} {y : Table} → ltb (length log) (r.used + forget_size * n) ≡ false
-        → y ≡ enlistments_put (opens_of log r.records) (transactions_put (opens_of log r.records) (empty_table (length log) r.used)) → x ≡ done_with y
-        → x ≡ restarted_of (read_back (body_of log stored) log)
+    pub answer_done : {y : Table} → ltb (length log) (r.used + forget_size * n) ≡ false
+        → y ≡ enlistments_put (opens_of log r.records) (transactions_put (opens_of log r.records) (empty_table (length log) r.used))
+        → done_with y ≡ restarted_of (read_back (body_of log stored) log)
     unfolding read_back
-    answer_done {x} {y} s f e =
-        let u = read.else t in
+    answer_done {y} s f =
+        let u = read.else in
         let w : y ≡ table_of (length log) (used_of (body_of log stored)) (open_after [] (scan 0 (body_of log stored))) =
-        rw (← used_is (sym damage ∙ t), ← u.opens) (f ∙ table_is (length log) r.used (opens_of log r.records) u.few u.few_entries) in
-        rw (sym damage ∙ t, sym (ap (ltb (length log)) counted) ∙ s, ← w) e
+        rw (← whole_log.1, ← u.opens) (f ∙ table_is (length log) r.used (opens_of log r.records) u.few u.few_entries) in
+        rw (whole_log.0, sym (ap (ltb (length log)) counted) ∙ s, ← w)
 
 pub read_leaves : (body log : List ℕ) → (read_back body log).log ≡ log
 unfolding read_back

@@ -14,27 +14,18 @@ fn put(log: &mut [u8], at: usize, b: u8) {
     }
 }
 
-// Places beyond any log stay where they are, so that no sum wraps.
+// No log reaches as far as the largest place, where a sum stays.
 fn plus(at: usize, n: u16) -> usize {
-    if at < 100000 { at + (n as usize) } else { at }
+    at.saturating_add(n as usize)
 }
 
 pub fn up(first: u32, j: u8) -> u32 {
-    if first < 4000000000 {
-        first + (j as u32)
-    } else {
-        first
-    }
+    first.saturating_add(j as u32)
 }
 
 fn number(log: &mut [u8], at: usize, n: u32) {
-    let bytes = basics::low_of(n);
-    let mut i: u16 = 0;
-    while i < 4 {
-        let place = plus(at, i);
-        let k = i as usize;
-        put(log, place, bytes[k]);
-        i += 1;
+    for (i, b) in basics::low_of(n).iter().enumerate() {
+        put(log, plus(at, i as u16), *b);
     }
 }
 
@@ -71,10 +62,8 @@ fn beginning(log: &mut [u8], at: usize, tag: u8, n: u8, t: u8) {
 // A commit record of t with n entries; gives the place behind it.
 pub fn commit(log: &mut [u8], at: usize, t: u8, n: u8, first: u32, rm: u8) -> usize {
     beginning(log, at, 1, n, t);
-    let mut j: u8 = 0;
-    while j < n {
+    for j in 0..n {
         entry(log, at, j, first, rm);
-        j += 1;
     }
     plus(at, RECORD + ENTRY * (n as u16))
 }
@@ -97,26 +86,23 @@ pub struct Made {
 pub fn empty() -> Made {
     let mut log = [0u8; 4096];
     header(&mut log);
-    Made { log: log, end: 8 }
+    Made { log, end: 8 }
 }
 
 pub fn with_byte(made: Made, at: usize, b: u8) -> Made {
     let mut log = made.log;
     put(&mut log, at, b);
-    Made {
-        log: log,
-        end: made.end,
-    }
+    Made { log, end: made.end }
 }
 
 pub fn with_commit(made: Made, t: u8, n: u8, first: u32, rm: u8) -> Made {
     let mut log = made.log;
     let end = commit(&mut log, made.end, t, n, first, rm);
-    Made { log: log, end: end }
+    Made { log, end }
 }
 
 pub fn with_forget(made: Made, t: u8) -> Made {
     let mut log = made.log;
     let end = forget(&mut log, made.end, t);
-    Made { log: log, end: end }
+    Made { log, end }
 }

@@ -30,11 +30,8 @@ fn main() {
 // 0xEE in the place of each byte of the header from the n-th on.
 fn spoilt(n: u8) -> Made {
     let mut made = logs::empty();
-    let mut i = n;
-    while i < 8 {
-        let other = logs::with_byte(made, i as usize, 0xEE);
-        made = other;
-        i += 1;
+    for i in n..8 {
+        made = logs::with_byte(made, i as usize, 0xEE);
     }
     made
 }
@@ -47,10 +44,8 @@ fn begun(n: u8) {
 }
 
 fn headers() {
-    let mut n: u8 = 0;
-    while n <= 8 {
+    for n in 0..=8 {
         begun(n);
-        n += 1;
     }
 }
 
@@ -65,10 +60,8 @@ fn wrong(i: u8) {
 }
 
 fn wrong_headers() {
-    let mut i: u8 = 0;
-    while i < 8 {
+    for i in 0..8 {
         wrong(i);
-        i += 1;
     }
 }
 
@@ -221,10 +214,8 @@ fn cut(n: u8) {
 }
 
 fn torn() {
-    let mut n: u8 = 66;
-    while n <= 142 {
+    for n in 66..=142 {
         cut(n);
-        n += 1;
     }
 }
 
@@ -293,11 +284,8 @@ fn order() {
 fn opened(transactions: u8, each: u8) -> Made {
     let mut made = logs::empty();
     let mut number: u32 = 1;
-    let mut t: u8 = 0;
-    while t < transactions {
-        t += 1;
-        let one = logs::with_commit(made, t, each, number, 1);
-        made = one;
+    for t in 1..=transactions {
+        made = logs::with_commit(made, t, each, number, 1);
         number = logs::up(number, each);
     }
     made
@@ -342,11 +330,9 @@ fn many() {
     let mut log = [0u8; 65536];
     logs::header(&mut log);
     let mut end: usize = 8;
-    let mut k: u16 = 0;
-    while k < 1161 {
+    for _ in 0..1161 {
         let next = logs::commit(&mut log, end, 7, 1, 1, 21);
         end = logs::forget(&mut log, next, 7);
-        k += 1;
     }
     end = logs::commit(&mut log, end, 7, 16, 1, 21);
     shown::say(b"many closed ");

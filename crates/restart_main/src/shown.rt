@@ -1,6 +1,6 @@
 // What a restart gave, as a line.
 use crate::logs::Made;
-use rules::{Enlistment, Restarted, Row, Table, Transaction};
+use rules::{Enlistment, Restarted, Row, Table, Transaction, refusal_number};
 
 const STDOUT_FILENO: i32 = 1;
 
@@ -19,62 +19,23 @@ fn part(mark: u8, n: u64) {
     count(&marks, n);
 }
 
-fn wide(b: u8) -> u64 {
-    b as u64
-}
-
-fn differs(a: &[u8], b: &[u8], i: usize) -> u64 {
-    if i < a.len() {
-        if i < b.len() {
-            let same = a[i] == b[i];
-            if same { 0 } else { 1 }
-        } else {
-            0
-        }
-    } else {
-        0
-    }
-}
-
-fn sum(a: u64, b: u64) -> u64 {
-    if a < 100000 {
-        if b < 100000 { a + b } else { a }
-    } else {
-        a
-    }
-}
-
-// How many of the first n bytes differ.
-fn changed(a: &[u8], b: &[u8], n: usize) -> u64 {
-    let mut differ: u64 = 0;
-    let mut i: usize = 0;
-    while i < n {
-        let d = differs(a, b, i);
-        let more = sum(differ, d);
-        differ = more;
-        i += 1;
-    }
-    differ
+// How many bytes differ.
+fn changed(a: &[u8], b: &[u8]) -> u64 {
+    a.iter().zip(b).filter(|(x, y)| x != y).count() as u64
 }
 
 fn enlistment(e: Enlistment) {
-    let rm = e.rm;
-    let id = rm.0;
     part(b' ', e.number as u64);
-    part(b'/', wide(id[15]));
-    part(b'/', wide(e.kind));
-    part(b'/', wide(e.mark));
-    part(b'/', wide(e.state));
+    part(b'/', u64::from(e.rm.0[15]));
+    part(b'/', u64::from(e.kind));
+    part(b'/', u64::from(e.mark));
+    part(b'/', u64::from(e.state));
 }
 
 fn held(table: Table, p: u8) {
-    let mut i: usize = 0;
-    while i < 128 {
-        let e = table.enlistments[i];
-        let mine = e.holder == p;
-        i += 1;
-        if mine {
-            enlistment(e);
+    for e in &table.enlistments {
+        if e.holder == p {
+            enlistment(*e);
         }
     }
 }
@@ -85,44 +46,35 @@ fn named(last: u64, state: u64) {
 }
 
 fn row(table: Table, x: Transaction, p: u8) {
-    let live = x.state != 0;
-    let t = x.id;
-    let id = t.0;
-    if live {
-        named(wide(id[15]), wide(x.state));
+    if x.state != 0 {
+        named(u64::from(x.id.0[15]), u64::from(x.state));
         held(table, p);
     }
 }
 
 fn rows(table: Table) {
-    let mut i: u8 = 0;
-    while i < 32 {
-        let k = i as usize;
-        let x = table.transactions[k];
-        i += 1;
-        row(table, x, i);
+    for i in 0..32u8 {
+        row(table, table.transactions[i as usize], i + 1);
     }
 }
 
 fn listed_row(x: Row) {
-    let t = x.id;
-    let id = t.0;
-    part(b' ', wide(id[15]));
-    part(b'/', wide(x.state));
-    part(b'/', wide(x.held));
-    part(b'/', wide(x.undone));
+    part(b' ', u64::from(x.id.0[15]));
+    part(b'/', u64::from(x.state));
+    part(b'/', u64::from(x.held));
+    part(b'/', u64::from(x.undone));
 }
 
 // The listing into 32 rows, by the half that takes and gives values: its refusal, and each row as identifier/state/held/not Done.
 fn list(table: Table) {
-    let l = listing::plan(table, 32);
-    let n = l.count;
-    count(b"; listing ", wide(l.refusal));
-    let mut k: usize = 0;
-    while k < n {
-        let x = listing::row_at(table, k);
-        listed_row(x);
-        k += 1;
+    match listing::plan(table, 32) {
+        Ok(n) => {
+            count(b"; listing ", u64::from(refusal_number::ACCEPTED));
+            for k in 0..n {
+                listed_row(listing::row_at(table, k));
+            }
+        }
+        Err(refusal) => count(b"; listing ", u64::from(u8::from(refusal))),
     }
 }
 
@@ -137,7 +89,7 @@ fn told(case: u64, r: Restarted, different: u64) {
     let t = r.table;
     let d = dispenser::dispenser_after(t);
     io::print_decimal(STDOUT_FILENO, case);
-    count(b": ", wide(r.refusal));
+    count(b": ", u64::from(r.refusal));
     numbers(t.used, t.capacity, different, d.next);
     rows(t);
     list(t);
@@ -146,16 +98,13 @@ fn told(case: u64, r: Restarted, different: u64) {
 
 // Behind the words that say which it is.
 pub fn outcome(log: &mut [u8], case: u64, capacity: usize, stored: usize) {
-    if log.len() < capacity {
-        return;
-    }
-    if 65537 < log.len() {
+    if log.len() < capacity || 65537 < log.len() {
         return;
     }
     let mut kept = [0u8; 65537];
     kept[..log.len()].copy_from_slice(log);
     let r = restart::restart(&mut log[..capacity], stored);
-    let different = changed(&kept, log, capacity);
+    let different = changed(&kept[..capacity], &log[..capacity]);
     told(case, r, different);
 }
 

@@ -1,15 +1,9 @@
 -- What memory means stands in the list of what each part of it means: both are read, and stored into, at the same index.
-use Prim.Native.Nat.{ℕ, zero, suc, ◌+◌, ◌<◌, ◌≤◌}
+use Prim.Native.Nat.{ℕ, zero, suc, ◌<◌}
 use mathlib.Core.Path.{◌≡◌, refl, ap, sym, ◌∙◌}
-use mathlib.Core.Bool.{Bool, true, false}
 use mathlib.Core.List.{List, [], ◌∷◌, map}
-use lib.ListN.{length, get_or, set, length-map, length-set, get_or-map}
-use Rattle.lists.specs.Lists.{any, first_or}
-use Rattle.lists.proofs.Loops.{get_or_mapped, Looked, look_next, look_stop, Filled, fill_start, fill_again, fill_done}
-
--- a test of what is read
-pub seen : {A B C : Type 0} (f : B → C) (g : A → B) (l : List A) (i : ℕ) (d : A) {b : C} → b ≡ f (g (get_or l i d)) → b ≡ f (get_or (map g l) i (g d))
-seen f g l i d e = rw (get_or-map g l i d) e
+use lib.ListN.{length, get_or, set}
+use Rattle.lists.proofs.Loops.{get_or_mapped}
 
 -- what is read, whatever stands for what is not there
 pub stands : {A B : Type 0} (g : A → B) (l : List A) (i : ℕ) (d : A) (e : B) {b : B} → i < length l → b ≡ g (get_or l i d) → b ≡ get_or (map g l) i e
@@ -19,41 +13,3 @@ pub map_set : {A B : Type 0} (g : A → B) (l : List A) (i : ℕ) (x : A) → ma
 map_set g [] i x = refl
 map_set g (y ∷ ys) zero x = refl
 map_set g (y ∷ ys) (suc i) x = ap (λ l. g y ∷ l) (map_set g ys i x)
-
--- ── the first that passes, and whether any does ─────────────────────────────────────────────────────────────────
-
-module _ {A B : Type 0} (f : B → Bool) (g : A → B) (l : List A) (d : A) {n i : ℕ} where
-  pub first_miss : (e : B) → Looked (λ k. first_or e f) n (map g l) i → i < n → f (g (get_or l i d)) ≡ false → Looked (λ k. first_or e f) n (map g l) (i + 1)
-  unfolding first_or
-  first_miss e p h t = look_next (g d) p h (λ xs. rw (get_or-map g l i d, t))
-
-  pub first_hit : {r : B} (e : B) → Looked (λ k. first_or e f) n (map g l) i → i < n → f (g (get_or l i d)) ≡ true → r ≡ g (get_or l i d) → r ≡ first_or e f (map g l)
-  unfolding first_or
-  first_hit e p h t q = look_stop (g d) p h (λ xs. rw (get_or-map g l i d, t) (sym q))
-
-  pub any_miss : Looked (λ k. any f) n (map g l) i → i < n → f (g (get_or l i d)) ≡ false → Looked (λ k. any f) n (map g l) (i + 1)
-  unfolding any
-  any_miss p h t = look_next (g d) p h (λ xs. rw (get_or-map g l i d, t))
-
-  pub any_hit : Looked (λ k. any f) n (map g l) i → i < n → f (g (get_or l i d)) ≡ true → true ≡ any f (map g l)
-  unfolding any
-  any_hit p h t = look_stop (g d) p h (λ xs. rw (get_or-map g l i d, t))
-
--- ── memory that is written until it means a list ────────────────────────────────────────────────────────────────
-
-pub record Written {A B : Type 0} (g : A → B) (n : ℕ) (l : List B) (out : List A) (i : ℕ) : Type 0 where
-  pub long : length out ≡ n
-  pub filled : Filled (λ k xs. xs) n l (map g out) i
-
-module _ {A B : Type 0} {g : A → B} {n : ℕ} {l : List B} {out : List A} where
-  pub write_start : length l ≡ n → length out ≡ n → Written g n l out 0
-  write_start h k = record { long = k; filled = fill_start h (length-map out g ∙ k) }
-
-  pub write_again : {i : ℕ} {y : A} (d : B) → Written g n l out i → i < n → g y ≡ get_or l i d → Written g n l (set out i y) (i + 1)
-  write_again {i} {y} d p h q = record {
-    long = simp length-set p.long;
-    filled = rw (map_set g out i y) (fill_again d p.filled h (λ xs. ap (λ x. x ∷ xs) (sym q)));
-  }
-
-  pub write_done : {i : ℕ} → Written g n l out i → n ≤ i → (length out ≡ n) × (map g out ≡ l)
-  write_done p h = (p.long, fill_done p.filled h refl)

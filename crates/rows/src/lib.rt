@@ -24,18 +24,16 @@ pub fn identifier_in(bytes: &[u8]) -> [u8; 16]
     requires { identifier_size ≤ length bytes.now }
     ensures { result ≡ take identifier_size bytes.now }
 {
-    [
-        bytes[0], bytes[1], bytes[2], bytes[3], bytes[4], bytes[5], bytes[6], bytes[7], bytes[8],
-        bytes[9], bytes[10], bytes[11], bytes[12], bytes[13], bytes[14], bytes[15],
-    ]
+    let mut id = [0u8; 16];
+    id.copy_from_slice(&bytes[..16]);
+    id
 }
 
 pub fn transaction_in(head: [u8; 17]) -> Transaction
     ensures { result ≡ transaction_in head }
 {
-    let id = identifier_in(&head);
     Transaction {
-        id: TxId(id),
+        id: TxId(identifier_in(&head)),
         state: head[HEAD_STATE_AT],
     }
 }
@@ -49,12 +47,10 @@ pub fn number_in(row: [u8; 24]) -> u32
 pub fn enlistment_in(row: [u8; 24]) -> Enlistment
     ensures { result ≡ enlistment_in row }
 {
-    let rm = identifier_in(&row);
-    let n = number_in(row);
     Enlistment {
         holder: row[HOLDER_AT],
-        rm: RmId(rm),
-        number: n,
+        rm: RmId(identifier_in(&row)),
+        number: number_in(row),
         kind: row[KIND_AT],
         mark: row[MARK_AT],
         state: row[STATE_AT],
@@ -64,28 +60,21 @@ pub fn enlistment_in(row: [u8; 24]) -> Enlistment
 pub fn head_of(x: Transaction) -> [u8; 17]
     ensures { transaction_in result ≡ x }
 {
-    let t = x.id;
-    let id = t.0;
-    let state = x.state;
-    [
-        id[0], id[1], id[2], id[3], id[4], id[5], id[6], id[7], id[8], id[9], id[10], id[11],
-        id[12], id[13], id[14], id[15], state,
-    ]
+    let mut head = [0u8; 17];
+    head[..16].copy_from_slice(&x.id.0);
+    head[HEAD_STATE_AT] = x.state;
+    head
 }
 
 pub fn row_of(e: Enlistment) -> [u8; 24]
     ensures { enlistment_in result ≡ e }
 {
-    let m = e.rm;
-    let id = m.0;
-    let n = e.number;
-    let low = basics::low_of(n);
-    let holder = e.holder;
-    let kind = e.kind;
-    let mark = e.mark;
-    let state = e.state;
-    [
-        id[0], id[1], id[2], id[3], id[4], id[5], id[6], id[7], id[8], id[9], id[10], id[11],
-        id[12], id[13], id[14], id[15], low[0], low[1], low[2], low[3], holder, kind, mark, state,
-    ]
+    let mut row = [0u8; 24];
+    row[..16].copy_from_slice(&e.rm.0);
+    row[16..20].copy_from_slice(&basics::low_of(e.number));
+    row[HOLDER_AT] = e.holder;
+    row[KIND_AT] = e.kind;
+    row[MARK_AT] = e.mark;
+    row[STATE_AT] = e.state;
+    row
 }

@@ -1,11 +1,17 @@
 -- Identifiers are compared byte by byte: the same are equal, and less is a total order. Each law goes along both lists.
 use Prim.Native.Nat.{ℕ, ◌≤◌}
 use native.Mathlib.Omega.{arith}
-use mathlib.Core.Path.{◌≡◌, refl, sym, ◌∙◌, ap₂}
-use mathlib.Core.Bool.{Bool, true, false, cond, true≢false, false≢true}
+use mathlib.Core.Path.{◌≡◌, refl, sym, ◌∙◌, ap, ap₂}
+use mathlib.Core.Bool.{Bool, true, false, cond, ◌&&◌, true≢false, false≢true}
 use mathlib.Core.List.{List, [], ◌∷◌}
 use lib.ListN.{length, replicate}
 use lib.Dec.{eqb, ltb}
+use lib.Pointwise.{pointwise}
+use Rattle.std.specs.Cmp.Lexicographic.{slice_partial_cmp}
+use Rattle.std.specs.Ordering.{nat_cmp, is_lt, is_some_and}
+use Rattle.std.specs.Prelude.{Some}
+use Rattle.std.proofs.lemmas.Bool.Decides.{nat_tests}
+use Rattle.std.proofs.lemmas.Cmp.{same_from_slice_cmp_tested}
 use borrow.Author.Tests.{eqb-true, eqb-false, eq-eqb, ne_eqb, ltb-true, ltb-false, le-ltb}
 use Rattle.lists.specs.Lists.{all}
 use Rattle.lists.proofs.Tests.{by_test, true_and, is_false, no_clash}
@@ -33,6 +39,20 @@ equal_same a b e = rw e (same_refl b)
 
 pub other_not_same : (a b : List ℕ) → (a ≡ b → ⊥) → same_bytes a b ≡ false
 other_not_same a b n = is_false (same_bytes a b) (λ e. n (same_equal a b e))
+
+-- the library's test of two lists, byte by byte, is the same test
+pub pointwise_same : (a b : List ℕ) → pointwise eqb a b ≡ same_bytes a b
+unfolding same_bytes
+pointwise_same [] [] = refl
+pointwise_same [] (y ∷ b) = refl
+pointwise_same (x ∷ a) [] = refl
+pointwise_same (x ∷ a) (y ∷ b) = ap (λ t. eqb x y && t) (pointwise_same a b)
+
+-- its test with zeros is the test that each byte is zero
+pub pointwise_zero : (t : List ℕ) → pointwise eqb t (replicate (length t) 0) ≡ is_zero t
+unfolding all
+pointwise_zero [] = refl
+pointwise_zero (b ∷ t) = ap (λ s. eqb b 0 && s) (pointwise_zero t)
 
 -- ── zero ────────────────────────────────────────────────────────────────────────────────────────────────────────
 
@@ -67,6 +87,11 @@ less_asymmetric (x ∷ a) [] e = absurd (false≢true e)
 less_asymmetric (x ∷ a) (y ∷ b) e = by_test (eqb x y)
     (λ p. rw (eq-eqb y x (sym (eqb-true x y p))) (less_asymmetric a b (rw p at e)))
     (λ p. rw (ne_eqb y x (λ q. eqb-false x y p (sym q))) (le-ltb y x (omega (arith, ltb-true x y (rw p at e)))))
+
+-- the library's order of two lists, in which the first pair that differs decides, is the same order
+pub lexicographic_less : (a b : List ℕ) (r : Bool) → r ≡ is_some_and is_lt (slice_partial_cmp (λ x y. Some (nat_cmp x y)) a b) → r ≡ less_bytes a b
+unfolding less_bytes
+lexicographic_less = same_from_slice_cmp_tested nat_cmp is_lt less_bytes refl (λ _ _. refl) (λ _ _. refl) (λ x y a b o h. grind (arith, nat_tests))
 
 -- what the first bytes say
 head_not_less : (x y : ℕ) (b : Bool) → cond (eqb x y) b (ltb x y) ≡ false → y ≤ x

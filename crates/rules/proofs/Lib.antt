@@ -23,3 +23,4 @@ pub mod MessageLaws
 pub mod Restarts
 pub mod Ordered
 pub mod Local
+pub mod RefusalNumbers

@@ -1,12 +1,13 @@
 -- Listing: "one per live transaction, by ascending identifier: identifier, state, held count, count not Done".
-use Rattle.std.specs.Prelude.{ℕ, cond, not, List, [], ◌∷◌, ◌++◌, map, eqb, ltb, length, drop}
+use Rattle.std.specs.Prelude.{ℕ, Result, Ok, Err, cond, not, List, [], ◌∷◌, ◌++◌, map, eqb, ltb, length, drop}
 use Rattle.lists.specs.Lists.{count}
 use Rattle.lists.specs.Places.{places_where}
 use Rattle.lists.specs.Sorting.{sort_by}
 use Rattle.rules.specs.declared.Table.{Table}
 use Rattle.rules.specs.declared.Row.{Row}
-use Rattle.rules.specs.declared.Listed.{Listed}
+use Rattle.rules.specs.declared.Refusal.{Refusal}
 use Rattle.rules.specs.RefusalNumber as refusal
+use Rattle.rules.specs.RefusalNumber.{answer_number}
 use Rattle.rules.specs.Table.{transaction_at, state_at, held, is_live, is_done}
 use Rattle.rules.specs.Sound.{sound_of}
 use Rattle.rules.specs.Events.{by_identifier}
@@ -49,6 +50,18 @@ list_of tb rows =
     (record { refusal = refusal.accepted; count = length (rows_of tb); rows = rows_of tb ++ drop (length (rows_of tb)) rows })
     (record { refusal = why; count = 0; rows = rows })
 
--- the answer as the code gives it
+-- what of it the host is told
+pub record Listed : Type 0 where
+  pub refusal : ℕ
+  pub count : ℕ
+
 abbrev pub listed_of : Listing → Listed
 listed_of l = record { refusal = l.refusal; count = l.count }
+
+-- the code's answer, which says how many rows only where they are written
+abbrev pub rows_told : Result ℕ Refusal → ℕ
+rows_told (Ok n) = n
+rows_told (Err r) = 0
+
+abbrev pub listed_as : Result ℕ Refusal → Listed
+listed_as r = record { refusal = answer_number r; count = rows_told r }

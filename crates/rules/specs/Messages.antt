@@ -1,9 +1,8 @@
 -- The eight messages. "Source document 000, section 2.2.4.1, decides."
-use Rattle.std.specs.Prelude.{ℕ, ◌+◌, Bool, cond, ◌&&◌, ◌||◌, List, [], ◌∷◌, ◌++◌, eqb, leb, length, take, drop}
+use Rattle.std.specs.Prelude.{ℕ, ◌+◌, Bool, cond, ◌&&◌, ◌||◌, List, [], ◌∷◌, ◌++◌, eqb, leb, length, take, drop, Result, Ok, Err}
 use Rattle.lists.specs.Lists.{any, every, first_or}
 use Rattle.rules.specs.declared.Message.{Message}
-use Rattle.rules.specs.declared.Read.{Read}
-use Rattle.rules.specs.declared.Written.{Written}
+use Rattle.rules.specs.declared.Refusal.{Refusal}
 use Rattle.rules.specs.RefusalNumber as refusal
 use Rattle.rules.specs.MessageType as message
 use Rattle.rules.specs.Sizes.{identifier_size, message_header_size}
@@ -120,6 +119,16 @@ no_message = record {
   session = record { 0 = zero_id };
 }
 
+-- The answer of the reader.
+pub record Read : Type 0 where
+  pub refusal : ℕ
+  pub message : Message
+
+-- the paper's values for each case of what the code answers
+abbrev pub read_answer : Result Message Refusal → Read
+read_answer (Ok m) = record { refusal = refusal.accepted; message = m }
+read_answer (Err r) = record { refusal = refusal.refusal_number r; message = no_message }
+
 -- "any breach is 14"
 unfoldable pub read_of : List ℕ → Read
 read_of bs =
@@ -165,6 +174,15 @@ write_of m memory =
     (record { refusal = refusal.accepted; length = length_of m.kind; memory = message_bytes m ++ drop (length_of m.kind) memory })
     (record { refusal = refusal.bad_message; length = 0; memory = memory })
 
--- the answer as the code gives it
+-- The answer alone.
+pub record Written : Type 0 where
+  pub refusal : ℕ
+  pub length : ℕ
+
+-- the paper's values for each case of what the code answers
+abbrev pub written_answer : Result ℕ Refusal → Written
+written_answer (Ok n) = record { refusal = refusal.accepted; length = n }
+written_answer (Err r) = record { refusal = refusal.refusal_number r; length = 0 }
+
 abbrev pub written_of : Writing → Written
 written_of w = record { refusal = w.refusal; length = w.length }

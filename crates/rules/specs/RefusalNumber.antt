@@ -1,5 +1,7 @@
 -- Refusal numbers: "0 is done", and what each other one is "given when".
-use Rattle.std.specs.Prelude.{ℕ}
+use Rattle.std.specs.Prelude.{ℕ, Result, Ok, Err}
+use Rattle.rules.specs.declared.Refusal.{Refusal}
+use Rattle.rules.specs.declared.Refusal.TheVariants as refused
 
 abbrev pub accepted : ℕ
 accepted = 0
@@ -51,3 +53,27 @@ not_sound = 15
 
 abbrev pub unreadable_line : ℕ
 unreadable_line = 16
+
+-- the number of each refusal of the code; none has 0
+abbrev pub refusal_number : Refusal → ℕ
+refusal_number refused.ZeroNamed = zero_named
+refusal_number refused.NotLive = not_live
+refusal_number refused.NotHeld = not_held
+refusal_number refused.AlreadyLive = already_live
+refusal_number refused.AlreadyHeld = already_held
+refusal_number refused.TransactionState = transaction_state
+refusal_number refused.EnlistmentState = enlistment_state
+refusal_number refused.Full = full
+refusal_number refused.NoSuchDurable = no_such_durable
+refusal_number refused.NotFailedToNotify = not_failed_to_notify
+refusal_number refused.DamagedLog = damaged_log
+refusal_number refused.LogLength = log_length
+refusal_number refused.LogTooShort = log_too_short
+refusal_number refused.BadMessage = bad_message
+refusal_number refused.NotSound = not_sound
+refusal_number refused.UnreadableLine = unreadable_line
+
+-- the number of an answer: "0 is done"
+abbrev pub answer_number : {A : Type 0} → Result A Refusal → ℕ
+answer_number (Ok x) = accepted
+answer_number (Err r) = refusal_number r

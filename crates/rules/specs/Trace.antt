@@ -1,5 +1,5 @@
 -- The trace program: a line to a command, and a result to a line. Lines are bytes without their newline.
-use Rattle.std.specs.Prelude.{ℕ, zero, suc, ◌+◌, ◌-◌, ◌*◌, ◌/◌, ◌%◌, Bool, false, cond, not, ◌&&◌, ◌||◌, List, [], ◌∷◌, ◌++◌, eqb, leb, ltb, length, replicate}
+use Rattle.std.specs.Prelude.{ℕ, zero, suc, ◌+◌, ◌-◌, ◌*◌, ◌/◌, ◌%◌, Bool, false, cond, not, ◌&&◌, ◌||◌, List, [], ◌∷◌, ◌++◌, Option, Some, None, option_and_then, eqb, leb, ltb, length, replicate}
 use Prim.Native.Char.{code}
 use Prim.Native.String as string
 use Rattle.lists.specs.Lists.{all}
@@ -11,14 +11,15 @@ use Rattle.rules.specs.declared.Kind.{Kind}
 use Rattle.rules.specs.declared.Kind.TheVariants as kind
 use Rattle.rules.specs.declared.Mark.{Mark}
 use Rattle.rules.specs.declared.Mark.TheVariants as mark
+use Rattle.rules.specs.declared.Vote.{Vote}
 use Rattle.rules.specs.declared.Vote.TheVariants as vote
+use Rattle.rules.specs.declared.Reply.{Reply}
 use Rattle.rules.specs.declared.Reply.TheVariants as reply
 use Rattle.rules.specs.declared.Name.{Name}
 use Rattle.rules.specs.declared.Name.TheVariants as name
 use Rattle.rules.specs.declared.Signal.{Signal}
-use Rattle.rules.specs.declared.Order.{Order}
-use Rattle.rules.specs.declared.Order.TheVariants as order
 use Rattle.rules.specs.declared.Command.{Command}
+use Rattle.rules.specs.declared.Command.TheVariants as command
 use Rattle.rules.specs.RefusalNumber as refusal
 use Rattle.rules.specs.Sizes.{largest_number, line_most}
 use Rattle.rules.specs.Identifiers.{Id, zero_id, same_bytes}
@@ -81,27 +82,32 @@ is_number_word w = is_numeral_to largest_number w
 
 -- ── a line to a command ─────────────────────────────────────────────────────────────────────────────────────────
 
-abbrev pub ordered : Order → Act → Id → Id → Command
-ordered o a t r = record { order = o; event = record { tx = record { 0 = t }; rm = record { 0 = r }; act = a } }
+-- a line is a command, or can't be read
+abbrev pub unreadable : Option Command
+unreadable = None
 
-abbrev pub unreadable : Command
-unreadable = ordered order.Unreadable act.Begin zero_id zero_id
+abbrev pub restarting : Option Command
+restarting = Some command.Restart
 
-abbrev pub restarting : Command
-restarting = ordered order.Restart act.Begin zero_id zero_id
+abbrev pub stepping : Act → Id → Id → Command
+stepping a t r = command.Step (record { tx = record { 0 = t }; rm = record { 0 = r }; act = a })
 
-abbrev pub read_if : Bool → Command → Command
+abbrev pub read_if : Bool → Option Command → Option Command
 read_if b c = cond b c unreadable
 
 -- `begin T`, `commit T`, `rollback T`
-abbrev pub of_transaction : Act → List ℕ → Command
-of_transaction a t = read_if (is_identifier_word t) (ordered order.Step a (identifier_of t) zero_id)
+abbrev pub of_transaction : Act → List ℕ → Option Command
+of_transaction a t = read_if (is_identifier_word t) (Some (stepping a (identifier_of t) zero_id))
 
 -- `zdone N`, `ack N`, `lost N`, and what follows N in a vote or a reply
-abbrev pub of_number : (ℕ → Act) → List ℕ → Command
-of_number a n = read_if (is_number_word n) (ordered order.Step (a (value_of n)) zero_id zero_id)
+abbrev pub of_number : (ℕ → Act) → List ℕ → Option Command
+of_number a n = read_if (is_number_word n) (Some (stepping (a (value_of n)) zero_id zero_id))
 
-unfoldable pub two_words : List ℕ → List ℕ → Command
+-- `reenlisted R`
+abbrev pub of_manager : List ℕ → Option Command
+of_manager r = read_if (is_identifier_word r) (Some (stepping act.Reenlisted zero_id (identifier_of r)))
+
+unfoldable pub two_words : List ℕ → List ℕ → Option Command
 two_words w a =
     cond (is_word "begin" w) (of_transaction act.Begin a)
     (cond (is_word "commit" w) (of_transaction act.Commit a)
@@ -109,30 +115,37 @@ two_words w a =
     (cond (is_word "zdone" w) (of_number act.ZeroDone a)
     (cond (is_word "ack" w) (of_number act.Ack a)
     (cond (is_word "lost" w) (of_number act.Lost a)
-    (cond (is_word "reenlisted" w) (read_if (is_identifier_word a) (ordered order.Step act.Reenlisted zero_id (identifier_of a)))
+    (cond (is_word "reenlisted" w) (of_manager a)
     unreadable))))))
 
+unfoldable pub vote_named : List ℕ → Option Vote
+vote_named v =
+    cond (is_word "prepared" v) (Some vote.Prepared)
+    (cond (is_word "readonly" v) (Some vote.ReadOnly)
+    (cond (is_word "aborted" v) (Some vote.Aborted)
+    None))
+
 -- `vote N prepared|readonly|aborted`
-abbrev pub vote_line : List ℕ → List ℕ → Command
-vote_line n v =
-    cond (is_word "prepared" v) (of_number (λ k. act.Vote k vote.Prepared) n)
-    (cond (is_word "readonly" v) (of_number (λ k. act.Vote k vote.ReadOnly) n)
-    (cond (is_word "aborted" v) (of_number (λ k. act.Vote k vote.Aborted) n)
-    unreadable))
+abbrev pub vote_line : List ℕ → List ℕ → Option Command
+vote_line n v = option_and_then (λ d. of_number (λ k. act.Vote k d) n) (vote_named v)
+
+unfoldable pub reply_named : List ℕ → Option Reply
+reply_named r =
+    cond (is_word "committed" r) (Some reply.Committed)
+    (cond (is_word "aborted" r) (Some reply.Aborted)
+    (cond (is_word "indoubt" r) (Some reply.InDoubt)
+    None))
 
 -- `sp N committed|aborted|indoubt`
-abbrev pub reply_line : List ℕ → List ℕ → Command
-reply_line n r =
-    cond (is_word "committed" r) (of_number (λ k. act.Reply k reply.Committed) n)
-    (cond (is_word "aborted" r) (of_number (λ k. act.Reply k reply.Aborted) n)
-    (cond (is_word "indoubt" r) (of_number (λ k. act.Reply k reply.InDoubt) n)
-    unreadable))
+abbrev pub reply_line : List ℕ → List ℕ → Option Command
+reply_line n r = option_and_then (λ d. of_number (λ k. act.Reply k d) n) (reply_named r)
 
 -- `ask T R`
-abbrev pub ask_line : List ℕ → List ℕ → Command
-ask_line t r = read_if (is_identifier_word t && is_identifier_word r) (ordered order.Step act.Ask (identifier_of t) (identifier_of r))
+abbrev pub ask_line : List ℕ → List ℕ → Option Command
+ask_line t r =
+    read_if (is_identifier_word t && is_identifier_word r) (Some (stepping act.Ask (identifier_of t) (identifier_of r)))
 
-unfoldable pub three_words : List ℕ → List ℕ → List ℕ → Command
+unfoldable pub three_words : List ℕ → List ℕ → List ℕ → Option Command
 three_words w a b =
     cond (is_word "vote" w) (vote_line a b)
     (cond (is_word "sp" w) (reply_line a b)
@@ -140,32 +153,38 @@ three_words w a b =
     unreadable))
 
 -- `enlist T N R zero|volatile|durable [single|twophase]`
-abbrev pub enlist_as : List ℕ → List ℕ → List ℕ → Kind → Mark → Command
+abbrev pub enlist_as : List ℕ → List ℕ → List ℕ → Kind → Mark → Option Command
 enlist_as t n r k m =
     read_if (is_identifier_word t && is_number_word n && is_identifier_word r)
-    (ordered order.Step (act.Enlist (value_of n) k m) (identifier_of t) (identifier_of r))
+    (Some (stepping (act.Enlist (value_of n) k m) (identifier_of t) (identifier_of r)))
 
-abbrev pub enlist_marked : List ℕ → List ℕ → List ℕ → List ℕ → Mark → Command
-enlist_marked t n r k m =
-    cond (is_word "zero" k) (enlist_as t n r kind.PhaseZero m)
-    (cond (is_word "volatile" k) (enlist_as t n r kind.Volatile m)
-    (cond (is_word "durable" k) (enlist_as t n r kind.Durable m)
-    unreadable))
+unfoldable pub kind_named : List ℕ → Option Kind
+kind_named k =
+    cond (is_word "zero" k) (Some kind.PhaseZero)
+    (cond (is_word "volatile" k) (Some kind.Volatile)
+    (cond (is_word "durable" k) (Some kind.Durable)
+    None))
+
+abbrev pub enlist_marked : List ℕ → List ℕ → List ℕ → List ℕ → Mark → Option Command
+enlist_marked t n r k m = option_and_then (λ d. enlist_as t n r d m) (kind_named k)
 
 -- "the last word, if absent, means single"
 abbrev pub absent_mark : Mark
 absent_mark = mark.Yes
 
-unfoldable pub enlist_line : List ℕ → List ℕ → List ℕ → List ℕ → Command
+unfoldable pub enlist_line : List ℕ → List ℕ → List ℕ → List ℕ → Option Command
 enlist_line t n r k = enlist_marked t n r k absent_mark
 
-unfoldable pub enlist_line_marked : List ℕ → List ℕ → List ℕ → List ℕ → List ℕ → Command
-enlist_line_marked t n r k m =
-    cond (is_word "single" m) (enlist_marked t n r k mark.Yes)
-    (cond (is_word "twophase" m) (enlist_marked t n r k mark.No)
-    unreadable)
+unfoldable pub mark_named : List ℕ → Option Mark
+mark_named m =
+    cond (is_word "single" m) (Some mark.Yes)
+    (cond (is_word "twophase" m) (Some mark.No)
+    None)
 
-unfoldable pub words_read : List (List ℕ) → Command
+unfoldable pub enlist_line_marked : List ℕ → List ℕ → List ℕ → List ℕ → List ℕ → Option Command
+enlist_line_marked t n r k m = option_and_then (enlist_marked t n r k) (mark_named m)
+
+unfoldable pub words_read : List (List ℕ) → Option Command
 words_read [] = unreadable
 words_read (w ∷ []) = read_if (is_word "restart" w) restarting
 words_read (w ∷ a ∷ []) = two_words w a
@@ -176,7 +195,7 @@ words_read (w ∷ a ∷ b ∷ c ∷ d ∷ e ∷ []) = read_if (is_word "enlist" 
 words_read (w ∷ a ∷ b ∷ c ∷ d ∷ e ∷ f ∷ ws) = unreadable
 
 -- "at most 64 bytes each without the newline"
-unfoldable pub command_of : List ℕ → Command
+unfoldable pub command_of : List ℕ → Option Command
 command_of line = read_if (leb (length line) line_most) (words_read (words line))
 
 -- ── a result to a line ──────────────────────────────────────────────────────────────────────────────────────────
@@ -224,18 +243,18 @@ pub record Traced : Type 0 where
   pub output : List ℕ
 
 -- "A line refused with 16 or longer than 64 bytes prints 16, the used length and 0."
-unfoldable pub obeyed : Order → Event → Table → List ℕ → Traced
-obeyed order.Unreadable e tb log = record { table = tb; log = log; output = output_of refusal.unreadable_line tb.used [] }
+unfoldable pub obeyed : Option Command → Table → List ℕ → Traced
+obeyed None tb log = record { table = tb; log = log; output = output_of refusal.unreadable_line tb.used [] }
 -- "`restart` (with the used bytes as stored)"
-obeyed order.Restart e tb log =
+obeyed (Some command.Restart) tb log =
     let r = restart_of log tb.used in
     record { table = r.table; log = r.log; output = output_of r.refusal r.table.used [] }
-obeyed order.Step e tb log =
+obeyed (Some (command.Step e)) tb log =
     let s = step_of tb e log in
     record { table = s.table; log = s.log; output = output_of s.refusal s.table.used s.signals }
 
 unfoldable pub traced_of : List ℕ → Table → List ℕ → Traced
-traced_of line tb log = let c = command_of line in obeyed c.order c.event tb log
+traced_of line tb log = obeyed (command_of line) tb log
 
 -- "It starts on an empty 4,096-byte log."
 abbrev pub trace_capacity : ℕ

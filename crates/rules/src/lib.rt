@@ -1,36 +1,41 @@
-// The types of the coordinator. Every rule about them stands in specs/, in the order of document 01; there is no code here.
+// The types of the coordinator. Every rule about them stands in specs/, in the order of document 01; the only code here
+// gives the numbers of kinds, marks and refusals.
 
 #![tactic(auto)]
+
+ghost use Rattle.std.specs.Prelude.{◌≡◌};
+ghost use Rattle.rules.specs.Events.{kind_of, mark_asked};
+ghost use Rattle.rules.specs.RefusalNumber.{refusal_number};
 
 pub mod enlistment_state;
 pub mod kinds;
 pub mod marks;
 pub mod message_type;
-pub mod refusal;
+pub mod refusal_number;
 pub mod sizes;
 pub mod transaction_state;
 
 // ---- Identifiers. Three types over 16 bytes, so that none can stand for another.
 
-#[derive(Clone, Copy)]
+#[derive(Clone, Copy, Debug, PartialEq, Eq)]
 pub struct TxId(pub [u8; 16]);
 
-#[derive(Clone, Copy)]
+#[derive(Clone, Copy, Debug, PartialEq, Eq)]
 pub struct RmId(pub [u8; 16]);
 
-#[derive(Clone, Copy)]
+#[derive(Clone, Copy, Debug, PartialEq, Eq)]
 pub struct SessionId(pub [u8; 16]);
 
 // ---- The table. Kinds, marks and states are numbers in it, since a table may come in unsound. An empty place is all zeros.
 
-#[derive(Clone, Copy)]
+#[derive(Clone, Copy, Debug, PartialEq, Eq)]
 pub struct Transaction {
     pub id: TxId,
     pub state: u8,
 }
 
 // The number first and the bytes behind it, so that nothing pads: a table has 128 of these, and by value it is copied.
-#[derive(Clone, Copy)]
+#[derive(Clone, Copy, Debug, PartialEq, Eq)]
 pub struct Enlistment {
     pub number: u32,
     pub rm: RmId,
@@ -50,7 +55,7 @@ pub struct Table {
     pub used: u32,
 }
 
-// ---- Events. The identifiers stand beside the enum, since an enum that holds an array is not covered.
+// ---- Events. The identifiers stand beside the enum: definitions and checks look at each by itself.
 
 #[derive(Clone, Copy)]
 pub enum Kind {
@@ -59,11 +64,36 @@ pub enum Kind {
     Durable,
 }
 
+// The number that the table holds for it.
+impl From<Kind> for u8 {
+    ghost from_gives = { λ k n. n ≡ kind_of k };
+
+    fn from(kind: Kind) -> u8 {
+        match kind {
+            Kind::PhaseZero => kinds::PHASE_ZERO,
+            Kind::Volatile => kinds::VOLATILE,
+            Kind::Durable => kinds::DURABLE,
+        }
+    }
+}
+
 // The single-phase mark.
 #[derive(Clone, Copy)]
 pub enum Mark {
     No,
     Yes,
+}
+
+// The number that the table holds for it.
+impl From<Mark> for u8 {
+    ghost from_gives = { λ m n. n ≡ mark_asked m };
+
+    fn from(mark: Mark) -> u8 {
+        match mark {
+            Mark::No => marks::NO,
+            Mark::Yes => marks::YES,
+        }
+    }
 }
 
 #[derive(Clone, Copy)]
@@ -162,18 +192,79 @@ pub enum Reaction {
     Becomes(u8, FollowUp),
 }
 
-// ---- Answers. Refusal 0 is done.
+// ---- Refusals, in the order of their numbers.
 
-// The table first, so that it is put where it stays.
+#[derive(Clone, Copy, Debug, PartialEq, Eq)]
+pub enum Refusal {
+    // A named identifier or number is zero.
+    ZeroNamed,
+    NotLive,
+    NotHeld,
+    // Begin of a live transaction.
+    AlreadyLive,
+    // Enlist: number held, or second durable of this resource manager in the transaction.
+    AlreadyHeld,
+    // Enlist, Commit, Rollback.
+    TransactionState,
+    EnlistmentState,
+    // No free place, or the transaction holds 16; listing: too few rows.
+    Full,
+    // Ask.
+    NoSuchDurable,
+    // Re-enlisted: a durable enlistment of it that isn't Done stands elsewhere than in Failed-to-notify.
+    NotFailedToNotify,
+    // Restart.
+    DamagedLog,
+    // The lent log's length differs from capacity.
+    LogLength,
+    // Restart.
+    LogTooShort,
+    // Bad message, or the writer's room below the message length.
+    BadMessage,
+    // Table not sound: step, listing.
+    NotSound,
+    // Trace line that can't be read.
+    UnreadableLine,
+}
+
+// The number that document 01 gives; 0 is done, and no refusal has it.
+impl From<Refusal> for u8 {
+    ghost from_gives = { λ r n. n ≡ refusal_number r };
+
+    fn from(refusal: Refusal) -> u8 {
+        match refusal {
+            Refusal::ZeroNamed => refusal_number::ZERO_NAMED,
+            Refusal::NotLive => refusal_number::NOT_LIVE,
+            Refusal::NotHeld => refusal_number::NOT_HELD,
+            Refusal::AlreadyLive => refusal_number::ALREADY_LIVE,
+            Refusal::AlreadyHeld => refusal_number::ALREADY_HELD,
+            Refusal::TransactionState => refusal_number::TRANSACTION_STATE,
+            Refusal::EnlistmentState => refusal_number::ENLISTMENT_STATE,
+            Refusal::Full => refusal_number::FULL,
+            Refusal::NoSuchDurable => refusal_number::NO_SUCH_DURABLE,
+            Refusal::NotFailedToNotify => refusal_number::NOT_FAILED_TO_NOTIFY,
+            Refusal::DamagedLog => refusal_number::DAMAGED_LOG,
+            Refusal::LogLength => refusal_number::LOG_LENGTH,
+            Refusal::LogTooShort => refusal_number::LOG_TOO_SHORT,
+            Refusal::BadMessage => refusal_number::BAD_MESSAGE,
+            Refusal::NotSound => refusal_number::NOT_SOUND,
+            Refusal::UnreadableLine => refusal_number::UNREADABLE_LINE,
+        }
+    }
+}
+
+// ---- Answers.
+
+// Of an accepted step: the table first, so that it is put where it stays.
 #[derive(Clone, Copy)]
 pub struct Stepped {
     pub table: Table,
     pub signals: Signals,
-    pub refusal: u8,
 }
 
 #[derive(Clone, Copy)]
 pub struct Restarted {
+    // 0 is done.
     pub refusal: u8,
     pub table: Table,
 }
@@ -199,12 +290,6 @@ pub struct Row {
     pub undone: u8,
 }
 
-#[derive(Clone, Copy)]
-pub struct Listed {
-    pub refusal: u8,
-    pub count: usize,
-}
-
 // ---- Messages. A field that the message's type does not have is zero.
 
 #[derive(Clone, Copy)]
@@ -220,29 +305,11 @@ pub struct Message {
     pub session: SessionId,
 }
 
-#[derive(Clone, Copy)]
-pub struct Read {
-    pub refusal: u8,
-    pub message: Message,
-}
+// ---- A line of the trace program.
 
 #[derive(Clone, Copy)]
-pub struct Written {
-    pub refusal: u8,
-    pub length: usize,
-}
-
-// ---- A line of the trace program. The event is all zeros, with Begin, where the order is not Step.
-
-#[derive(Clone, Copy)]
-pub enum Order {
-    Unreadable,
+pub enum Command {
+    // With the used bytes as stored.
     Restart,
-    Step,
-}
-
-#[derive(Clone, Copy)]
-pub struct Command {
-    pub order: Order,
-    pub event: Event,
+    Step(Event),
 }

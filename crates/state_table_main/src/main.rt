@@ -7,7 +7,7 @@ mod reader;
 mod writer;
 
 use reader::Row;
-use rules::{Event, Order};
+use rules::{Command, Event, Stepped, Table, refusal_number};
 
 const STDIN_FILENO: i32 = 0;
 
@@ -16,11 +16,12 @@ const STDOUT_FILENO: i32 = 1;
 // No record of these rows holds this byte, so that each byte written is seen.
 const UNWRITTEN: u8 = 0xEE;
 
-// Between two blocks of the input.
-#[derive(Clone, Copy)]
-struct Progress {
-    kept: usize,
-    more: bool,
+// What a refused step leaves: the table that it was given, and no signals.
+fn unchanged(table: Table) -> Stepped {
+    Stepped {
+        table,
+        signals: signals::to_none(),
+    }
 }
 
 // All that came of a step: the line that the trace program writes, the table, and the bytes of the log that changed.
@@ -30,11 +31,12 @@ fn stepped(row: Row, event: Event, log: &mut [u8], out: &mut [u8]) -> usize {
     if log.len() < lent {
         return 0;
     }
-    let s = step::step(table, event, &mut log[..lent]);
-    let after = s.table;
-    let signals = s.signals;
-    let first = writer::outcome(out, s.refusal, after.used, signals);
-    let second = writer::put_table(out, first, after);
+    let (refusal, s) = match step::step(table, event, &mut log[..lent]) {
+        Ok(s) => (refusal_number::ACCEPTED, s),
+        Err(refusal) => (u8::from(refusal), unchanged(table)),
+    };
+    let first = writer::outcome(out, refusal, s.table.used, s.signals);
+    let second = writer::put_table(out, first, s.table);
     let third = writer::changed(out, second, log, UNWRITTEN);
     writer::put(out, third, b'\n')
 }
@@ -56,14 +58,10 @@ fn show(line: &[u8]) {
     if line.len() < from {
         return unreadable();
     }
-    let c = trace_line::read_line(&line[from..]);
-    let order = c.order;
-    let event = c.event;
-    match order {
-        Order::Unreadable => unreadable(),
-        Order::Restart => unreadable(),
-        Order::Step => run(row, event),
-    }
+    let Some(Command::Step(event)) = trace_line::read_line(&line[from..]) else {
+        return unreadable();
+    };
+    run(row, event)
 }
 
 fn show_kept(line: &[u8], kept: usize) {
@@ -83,36 +81,29 @@ fn keep(line: &mut [u8], kept: usize, b: u8) -> usize {
 
 fn keep_all(line: &mut [u8], kept: usize, bytes: &[u8]) -> usize {
     let mut now = kept;
-    let mut i: usize = 0;
-    while i < bytes.len() {
-        now = keep(line, now, bytes[i]);
-        i += 1;
+    for b in bytes {
+        now = keep(line, now, *b);
     }
     now
 }
 
 // Gives how many bytes of the present line are kept, if the input goes on.
-fn block(line: &mut [u8], kept: usize) -> Progress {
+fn block(line: &mut [u8], kept: usize) -> Option<usize> {
     let mut space = io::buffer();
-    let n = io::read_full(STDIN_FILENO, &mut space);
-    let after = keep_all(line, kept, &space[..n]);
-    Progress {
-        kept: after,
-        more: n != 0,
+    match io::read_full(STDIN_FILENO, &mut space) {
+        0 => None,
+        n => Some(keep_all(line, kept, &space[..n])),
     }
 }
 
 fn blocks(line: &mut [u8]) {
     let mut kept: usize = 0;
-    let mut turns = u64::MAX;
-    while turns > 0 {
-        let p = block(line, kept);
-        let more = p.more;
-        if !more {
+    // Not a `loop`: each function is proved to end.
+    for _ in 0..u64::MAX {
+        let Some(after) = block(line, kept) else {
             return;
-        }
-        kept = p.kept;
-        turns -= 1;
+        };
+        kept = after;
     }
 }
 

@@ -33,20 +33,7 @@ struct Reading {
 }
 
 fn byte_at(line: &[u8], i: usize) -> u8 {
-    if i < line.len() { line[i] } else { b'|' }
-}
-
-// Places beyond any line stay where they are, so that no sum wraps.
-fn plus(at: usize, n: u8) -> usize {
-    if at < 100000 { at + (n as usize) } else { at }
-}
-
-fn up(count: u8) -> u8 {
-    if count < 255 { count + 1 } else { count }
-}
-
-fn is_digit(b: u8) -> bool {
-    if b < b'0' { false } else { b <= b'9' }
+    line.get(i).map_or(b'|', |b| *b)
 }
 
 fn extended(n: u32, b: u8) -> u32 {
@@ -61,18 +48,16 @@ fn extended(n: u32, b: u8) -> u32 {
 
 fn numeral(line: &[u8], at: usize) -> Number {
     let mut value: u32 = 0;
-    let mut i = at;
-    while i < line.len() {
-        let b = byte_at(line, i);
-        let digit = is_digit(b);
-        if digit {
-            value = extended(value, b);
-            i += 1;
-        } else {
+    for i in at..line.len() {
+        if !line[i].is_ascii_digit() {
             return Number { value, next: i };
         }
+        value = extended(value, line[i]);
     }
-    Number { value, next: i }
+    Number {
+        value,
+        next: at.max(line.len()),
+    }
 }
 
 fn identifier(n: u32) -> [u8; IDENTIFIER] {
@@ -82,12 +67,10 @@ fn identifier(n: u32) -> [u8; IDENTIFIER] {
 }
 
 fn kind_of(b: u8) -> u8 {
-    if b == b'P' {
-        kinds::PHASE_ZERO
-    } else if b == b'V' {
-        kinds::VOLATILE
-    } else {
-        kinds::DURABLE
+    match b {
+        b'P' => kinds::PHASE_ZERO,
+        b'V' => kinds::VOLATILE,
+        _ => kinds::DURABLE,
     }
 }
 
@@ -98,106 +81,91 @@ fn mark_of(b: u8) -> u8 {
 // `T=STATE`.
 fn transaction(line: &[u8], r: Reading) -> Reading {
     let id = numeral(line, r.next);
-    let state = numeral(line, plus(id.next, 1));
-    let t = identifier(id.value);
+    let state = numeral(line, id.next.saturating_add(1));
     let x = Transaction {
-        id: TxId(t),
+        id: TxId(identifier(id.value)),
         state: (state.value % 256) as u8,
     };
-    let p = up(r.transactions);
-    let table = r.table;
-    let after = places::put_transaction(table, p, x);
+    let p = r.transactions.saturating_add(1);
     Reading {
-        table: after,
+        table: places::put_transaction(r.table, p, x),
         transactions: p,
         enlistments: r.enlistments,
-        next: plus(state.next, 1),
+        next: state.next.saturating_add(1),
     }
 }
 
 // `KmS:N:R:H`.
 fn enlistment(line: &[u8], r: Reading) -> Reading {
     let kind = byte_at(line, r.next);
-    let mark = byte_at(line, plus(r.next, 1));
-    let state = numeral(line, plus(r.next, 2));
-    let number = numeral(line, plus(state.next, 1));
-    let rm = numeral(line, plus(number.next, 1));
-    let holder = numeral(line, plus(rm.next, 1));
-    let m = identifier(rm.value);
+    let mark = byte_at(line, r.next.saturating_add(1));
+    let state = numeral(line, r.next.saturating_add(2));
+    let number = numeral(line, state.next.saturating_add(1));
+    let rm = numeral(line, number.next.saturating_add(1));
+    let holder = numeral(line, rm.next.saturating_add(1));
     let e = Enlistment {
         holder: (holder.value % 256) as u8,
-        rm: RmId(m),
+        rm: RmId(identifier(rm.value)),
         number: number.value,
         kind: kind_of(kind),
         mark: mark_of(mark),
         state: (state.value % 256) as u8,
     };
-    let p = up(r.enlistments);
-    let table = r.table;
-    let after = places::put_enlistment(table, p, e);
+    let p = r.enlistments.saturating_add(1);
     Reading {
-        table: after,
+        table: places::put_enlistment(r.table, p, e),
         transactions: r.transactions,
         enlistments: p,
-        next: plus(holder.next, 1),
+        next: holder.next.saturating_add(1),
     }
 }
 
 // `-`.
 fn empty(r: Reading) -> Reading {
-    let table = r.table;
     Reading {
-        table: table,
+        table: r.table,
         transactions: r.transactions,
-        enlistments: up(r.enlistments),
-        next: plus(r.next, 2),
+        enlistments: r.enlistments.saturating_add(1),
+        next: r.next.saturating_add(2),
     }
 }
 
 fn place(line: &[u8], r: Reading) -> Reading {
-    let b = byte_at(line, r.next);
-    let digit = is_digit(b);
-    if digit {
-        transaction(line, r)
-    } else if b == b'-' {
-        empty(r)
-    } else {
-        enlistment(line, r)
+    match byte_at(line, r.next) {
+        b'0'..=b'9' => transaction(line, r),
+        b'-' => empty(r),
+        _ => enlistment(line, r),
     }
 }
 
 // At most all places of a table.
 fn read_places(line: &[u8], start: Reading) -> Reading {
     let mut r = start;
-    let mut k: u8 = 0;
-    while k < PLACES {
-        let b = byte_at(line, r.next);
-        if b == b'|' {
+    for _ in 0..PLACES {
+        if byte_at(line, r.next) == b'|' {
             return r;
         }
         r = place(line, r);
-        k += 1;
     }
     r
 }
 
 pub fn read_row(line: &[u8]) -> Row {
     let capacity = numeral(line, 0);
-    let used = numeral(line, plus(capacity.next, 1));
+    let used = numeral(line, capacity.next.saturating_add(1));
     let mut fresh = step::fresh(capacity.value);
     fresh.used = used.value;
     let start = Reading {
         table: fresh,
         transactions: 0,
         enlistments: 0,
-        next: plus(used.next, 1),
+        next: used.next.saturating_add(1),
     };
     let r = read_places(line, start);
-    let lent = numeral(line, plus(r.next, 2));
-    let table = r.table;
+    let lent = numeral(line, r.next.saturating_add(2));
     Row {
-        table: table,
+        table: r.table,
         lent: lent.value as usize,
-        event: plus(lent.next, 3),
+        event: lent.next.saturating_add(3),
     }
 }

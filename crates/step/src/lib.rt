@@ -2,16 +2,15 @@
 
 #![tactic(auto)]
 
-ghost use Rattle.std.specs.Prelude.{◌≡◌, length};
-ghost use Rattle.rules.specs.Sizes.{transaction_places, enlistment_places};
+ghost use Rattle.std.specs.Prelude.{◌≡◌};
 ghost use Rattle.rules.specs.Table.{fresh_of};
 ghost use Rattle.rules.specs.Sound.{sound_of};
-ghost use Rattle.rules.specs.Step.{IsStep};
+ghost use Rattle.rules.specs.Step.{IsStep, stepped_of};
 ghost use Rattle.rows.specs.Memory.{table_in};
-ghost use Rattle.entering.specs.StepIn.{IsStepIn};
+ghost use Rattle.entering.specs.StepIn.{IsStepIn, answered};
 
 use entering::Answer;
-use rules::{Event, Stepped, Table, refusal};
+use rules::{Event, Refusal, Stepped, Table};
 
 // A table whose log holds the header alone.
 pub fn fresh(capacity: u32) -> Table
@@ -35,47 +34,29 @@ pub fn step_in(
     sound: bool,
     event: Event,
     log: &mut [u8],
-) -> Answer
-    requires { (length heads.old ≡ transaction_places) × (length rows.old ≡ enlistment_places) × (sound ≡ sound_of (table_in heads.old rows.old capacity used)) }
-    ensures { IsStepIn (table_in heads.old rows.old capacity used) event log.old result heads.new rows.new log.new }
+) -> Result<Answer, Refusal>
+    requires { sound ≡ sound_of (table_in heads.old rows.old capacity used) }
+    ensures { IsStepIn (table_in heads.old rows.old capacity used) event log.old (answered used result) heads.new rows.new log.new }
 {
-    let why = refusals::first(sound, log.len(), capacity);
-    let fine = why == refusal::ACCEPTED;
-    if fine {
-        return events::on_event(heads, rows, capacity, used, event, log);
-    }
-    entering::silent(why, used)
+    refusals::first(sound, log.len(), capacity)?;
+    events::on_event(heads, rows, capacity, used, event, log)
 }
 
-pub fn step(table: Table, event: Event, log: &mut [u8]) -> Stepped
-    ensures { IsStep table event log.old result log.new }
+pub fn step(table: Table, event: Event, log: &mut [u8]) -> Result<Stepped, Refusal>
+    ensures { IsStep table event log.old (stepped_of table result) log.new }
 {
     let sound = sound::is_sound(table);
-    let head = [0u8; 17];
-    let row = [0u8; 24];
-    let mut heads = [head; 32];
-    let mut rows = [row; 128];
-    let transactions = table.transactions;
-    let enlistments = table.enlistments;
+    let mut heads = [[0u8; 17]; 32];
+    let mut rows = [[0u8; 24]; 128];
+    lent_tables::heads_of(table.transactions, &mut heads);
+    lent_tables::rows_of(table.enlistments, &mut rows);
     let capacity = table.capacity;
-    lent_tables::heads_of(transactions, &mut heads);
-    lent_tables::rows_of(enlistments, &mut rows);
     let answer = step_in(
         &mut heads, &mut rows, capacity, table.used, sound, event, log,
-    );
-    let signals = answer.signals;
-    let refused = answer.refusal != refusal::ACCEPTED;
-    if refused {
-        return Stepped {
-            table: table,
-            signals: signals,
-            refusal: answer.refusal,
-        };
-    }
+    )?;
     let after = lent_tables::table_in(&heads, &rows, capacity, answer.used);
-    Stepped {
+    Ok(Stepped {
         table: after,
-        signals: signals,
-        refusal: answer.refusal,
-    }
+        signals: answer.signals,
+    })
 }

@@ -3,7 +3,6 @@
 #![tactic(auto)]
 
 ghost use Rattle.std.specs.Prelude.{◌≡◌, ◌≤◌, MatchResult, length};
-ghost use Rattle.rules.specs.Sizes.{transaction_places, enlistment_places};
 ghost use Rattle.trace.specs.Sessions.{Fits, Ready, Answers, Takes, Writes, TakesAll, Finishes, Starts};
 
 use std::io::{Read, Stdin};
@@ -27,9 +26,8 @@ fn answer(
     ensures { Answers s heads.old rows.old log.old line.now output.old result heads.new rows.new log.new output.new }
 {
     let mut buffer = [0u8; OUTPUT];
-    let kept = s.kept;
     let o = trace_run::obey_in(
-        &line[..kept],
+        &line[..s.kept],
         heads,
         rows,
         s.capacity,
@@ -38,16 +36,14 @@ fn answer(
         log,
         &mut buffer,
     );
-    let size = o.size;
-    let waiting = trace_parts::put_text(output, s.waiting, &buffer[..size]);
+    let waiting = trace_parts::put_text(output, s.waiting, &buffer[..o.size]);
     Session {
         capacity: o.capacity,
         used: o.used,
         sound: o.sound,
         kept: 0,
-        taken: s.taken,
-        waiting: waiting,
-        writable: s.writable,
+        waiting,
+        ..s
     }
 }
 
@@ -64,12 +60,12 @@ fn take_line(
     requires { Ready s heads.old rows.old line.old output.old × (s.taken ≤ length block.now) }
     ensures { Takes s heads.old rows.old block.now log.old line.old output.old result heads.new rows.new log.new line.new output.new }
 {
-    let from = s.taken;
-    let part = trace_session::part_of(block, from);
-    let end = part.end;
-    let mut more = s;
-    more.kept = trace_session::keep(line, s.kept, &block[from..end]);
-    more.taken = part.taken;
+    let part = trace_session::part_of(block, s.taken);
+    let more = Session {
+        kept: trace_session::keep(line, s.kept, &block[s.taken..part.end]),
+        taken: part.taken,
+        ..s
+    };
     if part.whole {
         return answer(more, heads, rows, log, line, output);
     }
@@ -90,13 +86,12 @@ fn take_lines(
     ensures { Takes start heads.old rows.old block.now log.old line.old output.old result heads.new rows.new log.new line.new output.new }
 {
     let mut s = start;
+    // Not a `for`: it goes on by lines, and stops where no room is left.
     while s.taken < block.len() {
-        let room = trace_session::has_room(s);
-        if room {} else {
+        if !trace_session::has_room(s) {
             return s;
         }
-        let next = take_line(s, heads, rows, block, log, line, output);
-        s = next;
+        s = take_line(s, heads, rows, block, log, line, output);
     }
     s
 }
@@ -106,8 +101,7 @@ fn flush(s: Session, output: &[u8]) -> Session
     requires { s.waiting ≤ length output.now }
     ensures { Writes s result }
 {
-    let n = s.waiting;
-    let writable = io::write_all(STDOUT_FILENO, &output[..n]);
+    let writable = io::write_all(STDOUT_FILENO, &output[..s.waiting]);
     trace_session::flushed(s, writable)
 }
 
@@ -125,11 +119,11 @@ fn take_block(
 {
     let mut s = start;
     s.taken = 0;
+    // Not a `for`: it goes on by as many lines as there is room for.
     while s.taken < block.len() {
         let next = take_lines(s, heads, rows, block, log, line, output);
-        let after = flush(next, output);
-        s = after;
-        if s.writable {} else {
+        s = flush(next, output);
+        if !s.writable {
             return s;
         }
     }
@@ -156,18 +150,16 @@ fn finish(
 
 // On a log that holds nothing yet.
 fn started(heads: &mut [[u8; 17]; 32], rows: &mut [[u8; 24]; 128], log: &mut [u8]) -> Session
-    requires { (length heads.old ≡ transaction_places) × (length rows.old ≡ enlistment_places) }
     ensures { Starts log.old result heads.new rows.new log.new }
 {
-    let r = restart::restart(log, 0);
-    let table = r.table;
+    let table = restart::restart(log, 0).table;
     trace_run::put_table(table, heads, rows);
     // Once: from here on each line says it of the table that it leaves.
     let sound = step::is_sound(table);
     Session {
         capacity: table.capacity,
         used: table.used,
-        sound: sound,
+        sound,
         kept: 0,
         taken: 0,
         waiting: 0,
@@ -200,9 +192,8 @@ fn main(rt: HostRuntime) {
     let mut s = started(&mut heads, &mut rows, &mut log);
     let mut line = [0u8; KEPT];
     let mut output = [0u8; ROOM];
-    let mut turns = u64::MAX;
-    while 0 < turns {
-        turns -= 1;
+    // Not a `loop`: each function is proved to end.
+    for _ in 0..u64::MAX {
         let mut block = io::large_buffer();
         let n = next_block(&mut input, &mut block);
         if n == 0 {
@@ -210,7 +201,7 @@ fn main(rt: HostRuntime) {
             flush(last, &output);
             return;
         }
-        let next = take_block(
+        s = take_block(
             s,
             &mut heads,
             &mut rows,
@@ -219,8 +210,7 @@ fn main(rt: HostRuntime) {
             &mut line,
             &mut output,
         );
-        s = next;
-        if s.writable {} else {
+        if !s.writable {
             return;
         }
     }

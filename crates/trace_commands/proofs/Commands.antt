@@ -1,52 +1,46 @@
--- A command that is made of what was read of its words, and given only where all of them could be read, is the command of the words themselves:
--- where they can be read, what was read is what they say, and where not, it is not looked at.
+-- What was read of a word is what the word says, so that a command that is made of what was read, where all of its
+-- words could be read, is the command of the words themselves.
 use Prim.Native.Nat.{ℕ}
-use mathlib.Core.Path.{◌≡◌, refl, sym, ◌∙◌}
-use mathlib.Core.Bool.{Bool, true, false, cond, ◌&&◌}
+use mathlib.Core.Path.{◌≡◌, refl}
+use mathlib.Core.Bool.{Bool, true, false, cond}
 use mathlib.Core.List.{List}
+use Rattle.std.specs.Prelude.{Option, Some, None, MatchOption}
 use Rattle.rules.specs.declared.Act.{Act}
-use Rattle.rules.specs.declared.Act.TheVariants as act
-use Rattle.rules.specs.declared.Order.TheVariants as order
 use Rattle.rules.specs.declared.Command.{Command}
-use Rattle.rules.specs.Identifiers.{zero_id}
-use Rattle.rules.specs.Trace.{ordered, read_if, is_identifier_word, identifier_of, is_number_word, value_of, of_transaction, of_number, ask_line}
-use Rattle.trace_words.specs.declared.Number.{Number}
-use Rattle.trace_words.specs.declared.Identifier.{Identifier}
+use Rattle.rules.specs.Identifiers.{Id, zero_id}
+use Rattle.rules.specs.Trace.{stepping, is_identifier_word, identifier_of, is_number_word, value_of, of_number}
 use Rattle.trace_words.specs.Words.{number_of, identifier_word_of}
 
--- a test that was made by a call
-pub told : {a b v : Bool} → a ≡ b → a ≡ v → b ≡ v
-told e f = sym e ∙ f
-
 module _ {A : Type 0} where
-  once : {B : Type 0} (b : Bool) (v d : A) (f : A → B) (u : B) → cond b (f (cond b v d)) u ≡ cond b (f v) u
-  once true v d f u = refl
-  once false v d f u = refl
+  unread : (b : Bool) (v : A) → None ≡ cond b (Some v) None → b ≡ false
+  unread true v e = absurd (cc)
+  unread false v e = refl
 
-pub transaction_read : {i : Identifier} {c : Command} (a : Act) (t : List ℕ) → i ≡ identifier_word_of t
-    → c ≡ read_if i.readable (ordered order.Step a i.bytes zero_id) → c ≡ of_transaction a t
+  read : (b : Bool) (v : A) (x : A) → Some x ≡ cond b (Some v) None → (b ≡ true) × (x ≡ v)
+  read true v x e = (refl, cc)
+  read false v x e = absurd (cc)
+
+pub identifier_unread : (w : List ℕ) → None ≡ identifier_word_of w → is_identifier_word w ≡ false
 unfolding identifier_word_of
-transaction_read a t e q = q ∙ rw e (once (is_identifier_word t) (identifier_of t) zero_id (λ x. ordered order.Step a x zero_id) _)
+identifier_unread w e = unread (is_identifier_word w) (identifier_of w) e
 
-pub manager_read : {i : Identifier} {c : Command} (r : List ℕ) → i ≡ identifier_word_of r
-    → c ≡ read_if i.readable (ordered order.Step act.Reenlisted zero_id i.bytes)
-    → c ≡ read_if (is_identifier_word r) (ordered order.Step act.Reenlisted zero_id (identifier_of r))
+pub identifier_read : (w : List ℕ) (x : Id) → Some x ≡ identifier_word_of w
+    → (is_identifier_word w ≡ true) × (x ≡ identifier_of w)
 unfolding identifier_word_of
-manager_read r e q = q ∙ rw e (once (is_identifier_word r) (identifier_of r) zero_id (λ x. ordered order.Step act.Reenlisted zero_id x) _)
+identifier_read w x e = read (is_identifier_word w) (identifier_of w) x e
 
-pub number_used : {k : Number} {c : Command} (a : ℕ → Act) (n : List ℕ) → k ≡ number_of n
-    → c ≡ read_if k.readable (ordered order.Step (a k.value) zero_id zero_id) → c ≡ of_number a n
+pub number_unread : (w : List ℕ) → None ≡ number_of w → is_number_word w ≡ false
 unfolding number_of
-number_used a n e q = q ∙ rw e (once (is_number_word n) (value_of n) 0 (λ x. ordered order.Step (a x) zero_id zero_id) _)
+number_unread w e = unread (is_number_word w) (value_of w) e
 
-once_each : {A B C : Type 0} (p q : Bool) (v d : A) (w e : B) (f : A → B → C) (u : C)
-    → cond (p && q) (f (cond p v d) (cond q w e)) u ≡ cond (p && q) (f v w) u
-once_each true true v d w e f u = refl
-once_each true false v d w e f u = refl
-once_each false q v d w e f u = refl
+pub number_read : (w : List ℕ) (n : ℕ) → Some n ≡ number_of w → (is_number_word w ≡ true) × (n ≡ value_of w)
+unfolding number_of
+number_read w n e = read (is_number_word w) (value_of w) n e
 
-pub ask_read : {i j : Identifier} {b : Bool} {c : Command} (t r : List ℕ) → i ≡ identifier_word_of t → j ≡ identifier_word_of r → b ≡ (i.readable && j.readable)
-    → c ≡ read_if b (ordered order.Step act.Ask i.bytes j.bytes) → c ≡ ask_line t r
-unfolding identifier_word_of
-ask_read t r e g h q =
-    q ∙ rw (h, e, g) (once_each (is_identifier_word t) (is_identifier_word r) (identifier_of t) zero_id (identifier_of r) zero_id (ordered order.Step act.Ask) _)
+-- what the function that makes the act promises of it
+pub number_used : (a : ℕ → Act) (n : List ℕ) (r : Option Command)
+    → MatchOption r (is_number_word n ≡ false)
+    (λ c. (is_number_word n ≡ true) × ((x : Act) × (x ≡ a (value_of n)) × (c ≡ stepping x zero_id zero_id)))
+    → r ≡ of_number a n
+number_used a n None e = rw e
+number_used a n (Some c) (t, (x, p, q)) = rw (t, q, p)

@@ -2,85 +2,58 @@
 
 #![tactic(auto)]
 
-ghost use Rattle.std.specs.Prelude.{◌≡◌, [], ◌∷◌};
-ghost use Rattle.rules.specs.Identifiers.{zero_id};
+ghost use Rattle.std.specs.Prelude.{ℕ, ◌≡◌, [], ◌∷◌, MatchOption, false, true};
 ghost use Rattle.rules.specs.Trace as Trace;
-ghost use Rattle.rules.specs.Trace.{words_read, read_if, of_transaction, is_identifier_word, identifier_of, two_words, three_words, vote_line, reply_line, ask_line};
+ghost use Rattle.rules.specs.Trace.{words_read, of_transaction, of_manager, is_number_word, value_of, two_words, three_words, vote_named, vote_line, reply_named, reply_line, ask_line};
 
 use rules::sizes::IDENTIFIER;
-use rules::{Act, Command, Event, Order, Reply, RmId, TxId, Vote};
-use trace_words::Number;
+use rules::{Act, Command, Event, Reply, RmId, TxId, Vote};
 
-fn ordered(order: Order, act: Act, tx: [u8; IDENTIFIER], rm: [u8; IDENTIFIER]) -> Command
-    ensures { result ≡ Trace.ordered order act tx rm }
+// Stands where a command names no transaction, or no resource manager.
+const UNNAMED: [u8; IDENTIFIER] = [0; IDENTIFIER];
+
+pub fn stepping(act: Act, tx: [u8; IDENTIFIER], rm: [u8; IDENTIFIER]) -> Command
+    ensures { result ≡ Trace.stepping act tx rm }
 {
-    let event = Event {
+    Command::Step(Event {
         tx: TxId(tx),
         rm: RmId(rm),
         act,
-    };
-    Command { order, event }
+    })
 }
 
-pub fn unreadable() -> Command
-    ensures { result ≡ Trace.unreadable }
-{
-    ordered(
-        Order::Unreadable,
-        Act::Begin,
-        [0u8; IDENTIFIER],
-        [0u8; IDENTIFIER],
-    )
-}
-
-pub fn step_if(readable: bool, act: Act, tx: [u8; IDENTIFIER], rm: [u8; IDENTIFIER]) -> Command
-    ensures { result ≡ read_if readable (Trace.ordered Order.Step act tx rm) }
-{
-    if readable {
-        ordered(Order::Step, act, tx, rm)
-    } else {
-        unreadable()
-    }
-}
-
-fn of_transaction(act: Act, t: &[u8]) -> Command
+fn of_transaction(act: Act, t: &[u8]) -> Option<Command>
     ensures { result ≡ of_transaction act t.now }
 {
-    let tx = trace_words::read_identifier(t);
-    let bytes = tx.bytes;
-    step_if(tx.readable, act, bytes, [0u8; IDENTIFIER])
+    let tx = trace_words::read_identifier(t)?;
+    Some(stepping(act, tx, UNNAMED))
 }
 
-fn of_manager(r: &[u8]) -> Command
-    ensures { result ≡ read_if (is_identifier_word r.now) (Trace.ordered Order.Step Act.Reenlisted zero_id (identifier_of r.now)) }
+fn of_manager(r: &[u8]) -> Option<Command>
+    ensures { result ≡ of_manager r.now }
 {
-    let rm = trace_words::read_identifier(r);
-    let bytes = rm.bytes;
-    step_if(rm.readable, Act::Reenlisted, [0u8; IDENTIFIER], bytes)
+    let rm = trace_words::read_identifier(r)?;
+    Some(stepping(Act::Reenlisted, UNNAMED, rm))
 }
 
-fn of_number(n: Number, act: Act) -> Command
-    ensures { result ≡ read_if n.readable (Trace.ordered Order.Step act zero_id zero_id) }
+// The act is of the number that the word names.
+fn of_number<F: FnOnce(u32) -> Act>(act: F, n: &[u8]) -> Option<Command>
+    requires { (k : ℕ) → F.pre act k }
+    ensures { MatchOption result (is_number_word n.now ≡ false) (λ c. (is_number_word n.now ≡ true) × ((a : Act) × F.post act (value_of n.now) a × (c ≡ Trace.stepping a UNNAMED UNNAMED))) }
 {
-    step_if(n.readable, act, [0u8; IDENTIFIER], [0u8; IDENTIFIER])
+    let number = trace_words::read_number(n)?;
+    Some(stepping(act(number), UNNAMED, UNNAMED))
 }
 
-pub fn one_word(w: &[u8]) -> Command
+#[tactic(auto, unfolding(rules::specs::Trace::words_read, rules::specs::Trace::text))]
+pub fn one_word(w: &[u8]) -> Option<Command>
     ensures { result ≡ words_read (w.now ∷ []) }
 {
-    if trace_words::is_word(w, b"restart") {
-        ordered(
-            Order::Restart,
-            Act::Begin,
-            [0u8; IDENTIFIER],
-            [0u8; IDENTIFIER],
-        )
-    } else {
-        unreadable()
-    }
+    trace_words::is_word(w, b"restart").then_some(Command::Restart)
 }
 
-pub fn two_words(w: &[u8], a: &[u8]) -> Command
+#[tactic(auto, using(crate::proofs::Commands::number_used), unfolding(rules::specs::Trace::two_words, rules::specs::Trace::text))]
+pub fn two_words(w: &[u8], a: &[u8]) -> Option<Command>
     ensures { result ≡ two_words w.now a.now }
 {
     if trace_words::is_word(w, b"begin") {
@@ -92,70 +65,77 @@ pub fn two_words(w: &[u8], a: &[u8]) -> Command
     if trace_words::is_word(w, b"rollback") {
         return of_transaction(Act::Rollback, a);
     }
-    let n = trace_words::read_number(a);
     if trace_words::is_word(w, b"zdone") {
-        return of_number(n, Act::ZeroDone(n.value));
+        return of_number(Act::ZeroDone, a);
     }
     if trace_words::is_word(w, b"ack") {
-        return of_number(n, Act::Ack(n.value));
+        return of_number(Act::Ack, a);
     }
     if trace_words::is_word(w, b"lost") {
-        return of_number(n, Act::Lost(n.value));
+        return of_number(Act::Lost, a);
     }
     if trace_words::is_word(w, b"reenlisted") {
         return of_manager(a);
     }
-    unreadable()
+    None
 }
 
-fn vote_line(n: &[u8], v: &[u8]) -> Command
-    ensures { result ≡ vote_line n.now v.now }
+#[tactic(auto, unfolding(rules::specs::Trace::vote_named, rules::specs::Trace::text))]
+fn vote_named(v: &[u8]) -> Option<Vote>
+    ensures { result ≡ vote_named v.now }
 {
-    let n = trace_words::read_number(n);
     if trace_words::is_word(v, b"prepared") {
-        return of_number(n, Act::Vote(n.value, Vote::Prepared));
+        return Some(Vote::Prepared);
     }
     if trace_words::is_word(v, b"readonly") {
-        return of_number(n, Act::Vote(n.value, Vote::ReadOnly));
+        return Some(Vote::ReadOnly);
     }
     if trace_words::is_word(v, b"aborted") {
-        return of_number(n, Act::Vote(n.value, Vote::Aborted));
+        return Some(Vote::Aborted);
     }
-    unreadable()
+    None
 }
 
-fn reply_line(n: &[u8], r: &[u8]) -> Command
-    ensures { result ≡ reply_line n.now r.now }
+fn vote_line(n: &[u8], v: &[u8]) -> Option<Command>
+    ensures { result ≡ vote_line n.now v.now }
 {
-    let n = trace_words::read_number(n);
+    let vote = vote_named(v)?;
+    of_number(|number| Act::Vote(number, vote), n)
+}
+
+#[tactic(auto, unfolding(rules::specs::Trace::reply_named, rules::specs::Trace::text))]
+fn reply_named(r: &[u8]) -> Option<Reply>
+    ensures { result ≡ reply_named r.now }
+{
     if trace_words::is_word(r, b"committed") {
-        return of_number(n, Act::Reply(n.value, Reply::Committed));
+        return Some(Reply::Committed);
     }
     if trace_words::is_word(r, b"aborted") {
-        return of_number(n, Act::Reply(n.value, Reply::Aborted));
+        return Some(Reply::Aborted);
     }
     if trace_words::is_word(r, b"indoubt") {
-        return of_number(n, Act::Reply(n.value, Reply::InDoubt));
+        return Some(Reply::InDoubt);
     }
-    unreadable()
+    None
 }
 
-fn ask_line(t: &[u8], r: &[u8]) -> Command
+fn reply_line(n: &[u8], r: &[u8]) -> Option<Command>
+    ensures { result ≡ reply_line n.now r.now }
+{
+    let reply = reply_named(r)?;
+    of_number(|number| Act::Reply(number, reply), n)
+}
+
+fn ask_line(t: &[u8], r: &[u8]) -> Option<Command>
     ensures { result ≡ ask_line t.now r.now }
 {
-    let tx = trace_words::read_identifier(t);
-    let rm = trace_words::read_identifier(r);
-    let named = tx.bytes;
-    let asking = rm.bytes;
-    step_if(
-        basics::both(tx.readable, rm.readable),
-        Act::Ask,
-        named,
-        asking,
-    )
+    let tx = trace_words::read_identifier(t)?;
+    let rm = trace_words::read_identifier(r)?;
+    Some(stepping(Act::Ask, tx, rm))
 }
 
-pub fn three_words(w: &[u8], a: &[u8], b: &[u8]) -> Command
+#[tactic(auto, unfolding(rules::specs::Trace::three_words, rules::specs::Trace::text))]
+pub fn three_words(w: &[u8], a: &[u8], b: &[u8]) -> Option<Command>
     ensures { result ≡ three_words w.now a.now b.now }
 {
     if trace_words::is_word(w, b"vote") {
@@ -167,5 +147,5 @@ pub fn three_words(w: &[u8], a: &[u8], b: &[u8]) -> Command
     if trace_words::is_word(w, b"ask") {
         return ask_line(a, b);
     }
-    unreadable()
+    None
 }

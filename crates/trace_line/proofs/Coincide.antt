@@ -2,11 +2,12 @@
 use Prim.Native.Nat.{ℕ}
 use mathlib.Core.Path.{◌≡◌, sym, ◌∙◌}
 use mathlib.Core.List.{List}
+use Rattle.std.specs.Prelude.{Option}
 use Rattle.rules.specs.declared.Command.{Command}
 use Rattle.rules.specs.declared.Signals.{Signals}
 use Rattle.trace_line.specs.Promises.{IsReading, IsWriting}
 
-pub readings_coincide : (line : List ℕ) {a b : Command} → IsReading line a → IsReading line b → a ≡ b
+pub readings_coincide : (line : List ℕ) {a b : Option Command} → IsReading line a → IsReading line b → a ≡ b
 readings_coincide line p q = p ∙ sym q
 
 pub writings_coincide : (why used : ℕ) (signals : Signals) (before : List ℕ) {m n : ℕ} {after other : List ℕ}

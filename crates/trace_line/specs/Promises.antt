@@ -1,5 +1,5 @@
 -- What the two public functions promise, and what of it the definitions of rules leave open.
-use Rattle.std.specs.Prelude.{ℕ, ◌≤◌, ◌≡◌, List, [], ◌∷◌, ◌++◌, length, take}
+use Rattle.std.specs.Prelude.{ℕ, ◌≤◌, ◌≡◌, List, [], ◌∷◌, ◌++◌, Option, length, take}
 use Rattle.std.proofs.lemmas.List.Edits.{sets}
 use Rattle.rules.specs.declared.Command.{Command}
 use Rattle.rules.specs.declared.Signal.{Signal}
@@ -7,8 +7,8 @@ use Rattle.rules.specs.declared.Signals.{Signals}
 use Rattle.rules.specs.Trace.{command_of, output_of}
 use Rattle.trace_parts.specs.Puts.{output_most}
 
--- a line, without its newline, is read as this command
-abbrev pub IsReading : List ℕ → Command → Type 0
+-- a line, without its newline, is read as this command, or can't be read
+abbrev pub IsReading : List ℕ → Option Command → Type 0
 IsReading line command = command ≡ command_of line
 
 -- the first count of the items are the signals; a count above the number of items takes all of them

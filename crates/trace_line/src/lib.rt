@@ -19,18 +19,24 @@ fn after_five<'a>(
     c: &'a [u8],
     d: &'a [u8],
     rest: &'a [u8],
-) -> Command
+) -> Option<Command>
     ensures { result ≡ words_read (w.now ∷ a.now ∷ b.now ∷ c.now ∷ d.now ∷ words rest.now) }
 {
     let e = trace_words::word_end(rest);
     if e < rest.len() {
-        trace_commands::unreadable()
+        None
     } else {
         trace_enlist::six_words(w, a, b, c, d, rest)
     }
 }
 
-fn after_four<'a>(w: &'a [u8], a: &'a [u8], b: &'a [u8], c: &'a [u8], rest: &'a [u8]) -> Command
+fn after_four<'a>(
+    w: &'a [u8],
+    a: &'a [u8],
+    b: &'a [u8],
+    c: &'a [u8],
+    rest: &'a [u8],
+) -> Option<Command>
     ensures { result ≡ words_read (w.now ∷ a.now ∷ b.now ∷ c.now ∷ words rest.now) }
 {
     let e = trace_words::word_end(rest);
@@ -41,18 +47,18 @@ fn after_four<'a>(w: &'a [u8], a: &'a [u8], b: &'a [u8], c: &'a [u8], rest: &'a 
     }
 }
 
-fn after_three<'a>(w: &'a [u8], a: &'a [u8], b: &'a [u8], rest: &'a [u8]) -> Command
+fn after_three<'a>(w: &'a [u8], a: &'a [u8], b: &'a [u8], rest: &'a [u8]) -> Option<Command>
     ensures { result ≡ words_read (w.now ∷ a.now ∷ b.now ∷ words rest.now) }
 {
     let e = trace_words::word_end(rest);
     if e < rest.len() {
         after_four(w, a, b, &rest[..e], &rest[e + 1..])
     } else {
-        trace_commands::unreadable()
+        None
     }
 }
 
-fn after_two<'a>(w: &'a [u8], a: &'a [u8], rest: &'a [u8]) -> Command
+fn after_two<'a>(w: &'a [u8], a: &'a [u8], rest: &'a [u8]) -> Option<Command>
     ensures { result ≡ words_read (w.now ∷ a.now ∷ words rest.now) }
 {
     let e = trace_words::word_end(rest);
@@ -63,7 +69,7 @@ fn after_two<'a>(w: &'a [u8], a: &'a [u8], rest: &'a [u8]) -> Command
     }
 }
 
-fn after_one<'a>(w: &'a [u8], rest: &'a [u8]) -> Command
+fn after_one<'a>(w: &'a [u8], rest: &'a [u8]) -> Option<Command>
     ensures { result ≡ words_read (w.now ∷ words rest.now) }
 {
     let e = trace_words::word_end(rest);
@@ -74,12 +80,12 @@ fn after_one<'a>(w: &'a [u8], rest: &'a [u8]) -> Command
     }
 }
 
-// A line, without its newline, to the command that it is; Unreadable stands for refusal 16.
-pub fn read_line(line: &[u8]) -> Command
+// A line, without its newline, to the command that it is; None where it can't be read, which is refusal 16.
+pub fn read_line(line: &[u8]) -> Option<Command>
     ensures { IsReading line.now result }
 {
     if sizes::LINE < line.len() {
-        return trace_commands::unreadable();
+        return None;
     }
     let e = trace_words::word_end(line);
     if e < line.len() {
@@ -104,11 +110,8 @@ fn put_signals(
     ensures { Puts (signal_texts (take n items)) buffer.old from result buffer.new }
 {
     let mut at = from;
-    let mut i: usize = 0;
-    while i < n {
-        let signal = items[i];
-        at = trace_parts::put_signal(buffer, at, signal);
-        i += 1;
+    for i in 0..n {
+        at = trace_parts::put_signal(buffer, at, items[i]);
     }
     at
 }
@@ -117,12 +120,7 @@ fn put_signals(
 fn signal_count(count: u8) -> usize
     ensures { result ≡ min count signals_most }
 {
-    let n = count as usize;
-    if n <= sizes::SIGNALS {
-        n
-    } else {
-        sizes::SIGNALS
-    }
+    usize::from(count).min(sizes::SIGNALS)
 }
 
 // A result to its output line, which is written at the start of the buffer, newline and all; gives its length.
@@ -130,13 +128,12 @@ pub fn write_line(refusal: u8, used: u32, signals: Signals, buffer: &mut [u8; OU
     ensures { IsWriting refusal used signals buffer.old result buffer.new }
 {
     let count = signal_count(signals.count);
-    let items = signals.items;
     let first = trace_parts::put_number(buffer, 0, refusal as u32);
     buffer[first] = b' ';
     let second = trace_parts::put_number(buffer, first + 1, used);
     buffer[second] = b' ';
     let third = trace_parts::put_number(buffer, second + 1, count as u32);
-    let end = put_signals(buffer, third, items, count);
+    let end = put_signals(buffer, third, signals.items, count);
     buffer[end] = b'\n';
     end + 1
 }

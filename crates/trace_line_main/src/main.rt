@@ -5,7 +5,9 @@
 ghost use Rattle.std.specs.Prelude.{◌≤◌, length};
 
 use rules::sizes::IDENTIFIER;
-use rules::{Act, Kind, Mark, Name, Order, Reply, Signal, Signals, Vote, sizes};
+use rules::{
+    Act, Command, Event, Kind, Mark, Name, Reply, RmId, Signal, Signals, TxId, Vote, sizes,
+};
 use trace_line::OUTPUT;
 
 // The byte of an identifier that a line names.
@@ -16,104 +18,111 @@ fn word(w: &[u8]) {
     io::write_all(1, b" ");
 }
 
-fn kind_of(k: Kind) {
-    match k {
-        Kind::PhaseZero => word(b"zero"),
-        Kind::Volatile => word(b"volatile"),
-        Kind::Durable => word(b"durable"),
+fn kind_word(kind: Kind) -> &'static [u8] {
+    match kind {
+        Kind::PhaseZero => b"zero",
+        Kind::Volatile => b"volatile",
+        Kind::Durable => b"durable",
     }
 }
 
-fn mark_of(m: Mark) {
-    match m {
-        Mark::No => word(b"no"),
-        Mark::Yes => word(b"yes"),
+fn mark_word(mark: Mark) -> &'static [u8] {
+    match mark {
+        Mark::No => b"no",
+        Mark::Yes => b"yes",
     }
 }
 
-fn vote_of(v: Vote) {
-    match v {
-        Vote::Prepared => word(b"prepared"),
-        Vote::ReadOnly => word(b"readonly"),
-        Vote::Aborted => word(b"aborted"),
+fn vote_word(vote: Vote) -> &'static [u8] {
+    match vote {
+        Vote::Prepared => b"prepared",
+        Vote::ReadOnly => b"readonly",
+        Vote::Aborted => b"aborted",
     }
 }
 
-fn reply_of(r: Reply) {
-    match r {
-        Reply::Committed => word(b"committed"),
-        Reply::Aborted => word(b"aborted"),
-        Reply::InDoubt => word(b"indoubt"),
+fn reply_word(reply: Reply) -> &'static [u8] {
+    match reply {
+        Reply::Committed => b"committed",
+        Reply::Aborted => b"aborted",
+        Reply::InDoubt => b"indoubt",
     }
 }
 
-fn number_of(w: &[u8], n: u32) {
+fn numbered(w: &[u8], number: u32) {
     word(w);
-    io::print_decimal(1, n as u64);
+    io::print_decimal(1, u64::from(number));
     io::write_all(1, b" ");
 }
 
-fn act_of(a: Act) {
-    match a {
+// An act's name, and behind it what it names.
+fn show_act(act: Act) {
+    match act {
         Act::Begin => word(b"Begin"),
-        Act::Enlist(n, k, m) => {
-            number_of(b"Enlist", n);
-            kind_of(k);
-            mark_of(m);
+        Act::Enlist(number, kind, mark) => {
+            numbered(b"Enlist", number);
+            word(kind_word(kind));
+            word(mark_word(mark));
         }
         Act::Commit => word(b"Commit"),
-        Act::ZeroDone(n) => number_of(b"ZeroDone", n),
-        Act::Vote(n, v) => {
-            number_of(b"Vote", n);
-            vote_of(v);
+        Act::ZeroDone(number) => numbered(b"ZeroDone", number),
+        Act::Vote(number, vote) => {
+            numbered(b"Vote", number);
+            word(vote_word(vote));
         }
         Act::Rollback => word(b"Rollback"),
-        Act::Reply(n, r) => {
-            number_of(b"Reply", n);
-            reply_of(r);
+        Act::Reply(number, reply) => {
+            numbered(b"Reply", number);
+            word(reply_word(reply));
         }
-        Act::Ack(n) => number_of(b"Ack", n),
-        Act::Lost(n) => number_of(b"Lost", n),
+        Act::Ack(number) => numbered(b"Ack", number),
+        Act::Lost(number) => numbered(b"Lost", number),
         Act::Ask => word(b"Ask"),
         Act::Reenlisted => word(b"Reenlisted"),
     }
 }
 
-// The sum of the bytes before the last, which are to be zero.
-fn leading(bytes: [u8; IDENTIFIER]) -> u32 {
-    let mut sum: u32 = 0;
-    let mut i: usize = 0;
-    while i < LAST {
-        sum += basics::wide(bytes[i]);
-        i += 1;
-    }
-    sum
+fn sum(bytes: &[u8]) -> u64
+    requires { length bytes.now ≤ LAST }
+{
+    bytes.iter().map(|b| u64::from(*b)).sum()
 }
 
-fn identifier(bytes: [u8; IDENTIFIER]) {
-    io::print_decimal(1, leading(bytes) as u64);
+// The sum of the bytes before the last, which are to be zero, and then the last.
+fn show_identifier(bytes: [u8; IDENTIFIER]) {
+    io::print_decimal(1, sum(&bytes[..LAST]));
     io::write_all(1, b"/");
-    io::print_decimal(1, basics::wide(bytes[LAST]) as u64);
+    io::print_decimal(1, u64::from(bytes[LAST]));
     io::write_all(1, b" ");
 }
 
-fn show(line: &[u8]) {
-    let c = trace_line::read_line(line);
-    let order = c.order;
-    match order {
-        Order::Unreadable => word(b"16"),
-        Order::Restart => word(b"restart"),
-        Order::Step => word(b"step"),
+fn command_word(command: Option<Command>) -> &'static [u8] {
+    match command {
+        None => b"16",
+        Some(Command::Restart) => b"restart",
+        Some(Command::Step(_)) => b"step",
     }
-    let e = c.event;
-    let act = e.act;
-    act_of(act);
-    let tx = e.tx;
-    let t = tx.0;
-    identifier(t);
-    let rm = e.rm;
-    let r = rm.0;
-    identifier(r);
+}
+
+// The event of a step. Beside a line that is none, a Begin of zeros is shown.
+fn event_of(command: Option<Command>) -> Event {
+    if let Some(Command::Step(event)) = command {
+        return event;
+    }
+    Event {
+        tx: TxId([0; IDENTIFIER]),
+        rm: RmId([0; IDENTIFIER]),
+        act: Act::Begin,
+    }
+}
+
+fn show(line: &[u8]) {
+    let command = trace_line::read_line(line);
+    word(command_word(command));
+    let event = event_of(command);
+    show_act(event.act);
+    show_identifier(event.tx.0);
+    show_identifier(event.rm.0);
     io::write_all(1, b" <");
     io::write_all(1, line);
     io::write_all(1, b">\n");
@@ -123,30 +132,6 @@ fn out(refusal: u8, used: u32, signals: Signals) {
     let mut buffer = [0u8; OUTPUT];
     let n = trace_line::write_line(refusal, used, signals, &mut buffer);
     io::write_all(1, &buffer[..n]);
-}
-
-// The place of the first newline from `from` on, and the length where there is none.
-fn line_end(input: &[u8], from: usize) -> usize
-    requires { from ≤ length input.now }
-    ensures { (from ≤ result) × (result ≤ length input.now) }
-{
-    let mut i = from;
-    while i < input.len() {
-        if input[i] == b'\n' {
-            return i;
-        }
-        i += 1;
-    }
-    i
-}
-
-fn show_lines(input: &[u8]) {
-    let mut from: usize = 0;
-    while from <= input.len() {
-        let end = line_end(input, from);
-        show(&input[from..end]);
-        from = end + 1;
-    }
 }
 
 fn put(refusal: u8, used: u32, count: u8, first: Signal, second: Signal) {
@@ -162,7 +147,9 @@ fn signal(name: Name, number: u32) -> Signal {
 fn main() {
     let mut space = [0u8; 8192];
     let n = io::read_full(0, &mut space);
-    show_lines(&space[..n]);
+    for line in space[..n].split(|b| *b == b'\n') {
+        show(line);
+    }
     let none = signal(Name::Nothing, 0);
     put(0, 8, 0, none, none);
     let most = signal(Name::AnswerCommitted, sizes::LARGEST_NUMBER);

@@ -1,8 +1,8 @@
 -- Bytes written one after another: what is written at a place and behind it is written at once, and changes nothing else.
 use Prim.Native.Nat.{ℕ, ◌+◌, ◌-◌, ◌≤◌}
 use native.Mathlib.Omega.{arith}
-use mathlib.Core.Path.{◌≡◌, refl, ◌∙◌, ap}
-use mathlib.Core.List.{List, [], ◌∷◌, ◌++◌}
+use mathlib.Core.Path.{◌≡◌, refl, sym, ◌∙◌, ap}
+use mathlib.Core.List.{List, [], ◌∷◌, ◌++◌, append_assoc}
 use lib.Dec.{lit≤}
 use lib.ListN.{length, set, take, drop, length-append, length-drop}
 use lib.Seq.{take_all}
@@ -14,7 +14,9 @@ use Rattle.rules.specs.Trace.{text, name_text, decimal}
 use Rattle.trace_words.specs.Words.{word_end}
 use Rattle.trace_parts.specs.declared.Decimal.{Decimal}
 use Rattle.trace_parts.proofs.Digits.{most_digits}
-use Rattle.lists.proofs.Stores.{sets_append, Stored, store_done}
+use borrow.Rule.Slice.PartMut.{put_mid, Post-is}
+use Rattle.std.proofs.lemmas.List.Edits.{sets-eq}
+use Rattle.lists.proofs.Stores.{sets_append}
 
 pub put_both : {xs ys before middle after : List ℕ} {at between end : ℕ} → Puts xs before at between middle → Puts ys middle between end after
     → Puts (xs ++ ys) before at end after
@@ -28,16 +30,21 @@ put_both {xs} {ys} {before} {middle} {after} {at} {between} {end} p q =
 pub put_byte : {before : List ℕ} {at : ℕ} (b : ℕ) → Puts (b ∷ []) before at (at + 1) (set before at b)
 put_byte b = record { ends = refl; same = refl }
 
--- the bytes of a text, stored one by one
-pub put_stored : {text before buffer : List ℕ} {at i : ℕ} → Stored (length text) text before at buffer i → length text ≤ i → Puts text before at (at + i) buffer
-put_stored p h = record { ends = omega (arith, p.within); same = store_done p h }
+-- the bytes of a text, copied into a part of the buffer
+pub put_copied : {text before part : List ℕ} {at : ℕ} → at + length text ≤ length before → part ≡ text
+    → Puts text before at (at + length text) (put_mid at (at + length text - at) before part)
+put_copied {text} {before} {part} {at} h e = record {
+  ends = refl;
+  same = rw e (ap (λ rest. take at before ++ (text ++ rest)) (Post-is at (at + length text) before (omega arith))
+      ∙ sym (append_assoc (take at before) text (drop (at + length text) before)) ∙ sym (sets-eq text before at h));
+}
 
 -- ── a number, a name, a signal ──────────────────────────────────────────────────────────────────────────────────
 
 pub put_decimal : {n : ℕ} {d : Decimal} {before after : List ℕ} {at end : ℕ} → Converts n d
-    → Puts (take (digits_most - d.from) (drop d.from d.bytes)) before at end after → Puts (decimal n) before at end after
+    → Puts (take (length d.bytes - d.from) (drop d.from d.bytes)) before at end after → Puts (decimal n) before at end after
 put_decimal {n} {d} p q =
-    rw (take_all (digits_most - d.from) (drop d.from d.bytes) (simp length-drop (omega arith)), p.same) at q
+    rw (take_all (length d.bytes - d.from) (drop d.from d.bytes) (simp length-drop (omega arith)), p.same) at q
 
 pub name_most_lem : (a : Name) → length (name_text a) ≤ name_most
 unfolding name_text text

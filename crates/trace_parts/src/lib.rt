@@ -30,6 +30,7 @@ fn decimal_of(n: u32) -> Decimal
     let mut bytes = [0u8; DIGITS];
     let mut k = DIGITS;
     let mut m = n;
+    // Not a `for`: it goes on by tenths, as long as the number has digits.
     while 10 <= m {
         k -= 1;
         bytes[k] = b'0' + (m % 10) as u8;
@@ -45,12 +46,9 @@ pub fn put_text(buffer: &mut [u8], at: usize, text: &[u8]) -> usize
     requires { at + length text.now ≤ length buffer.old }
     ensures { Puts text.now buffer.old at result buffer.new }
 {
-    let mut i: usize = 0;
-    while i < text.len() {
-        buffer[at + i] = text[i];
-        i += 1;
-    }
-    at + i
+    let end = at + text.len();
+    buffer[at..end].copy_from_slice(text);
+    end
 }
 
 pub fn put_number(buffer: &mut [u8; OUTPUT], at: usize, n: u32) -> usize
@@ -58,9 +56,7 @@ pub fn put_number(buffer: &mut [u8; OUTPUT], at: usize, n: u32) -> usize
     ensures { Puts (decimal n) buffer.old at result buffer.new }
 {
     let d = decimal_of(n);
-    let bytes = d.bytes;
-    let from = d.from;
-    put_text(buffer, at, &bytes[from..])
+    put_text(buffer, at, &d.bytes[d.from..])
 }
 
 // With spaces behind the name.
@@ -97,8 +93,7 @@ pub fn put_signal(buffer: &mut [u8; OUTPUT], at: usize, signal: Signal) -> usize
     ensures { Puts (signal_text signal) buffer.old at result buffer.new }
 {
     buffer[at] = b' ';
-    let name = signal.name;
-    let named = put_name(buffer, at + 1, name);
+    let named = put_name(buffer, at + 1, signal.name);
     buffer[named] = b':';
     put_number(buffer, named + 1, signal.number)
 }

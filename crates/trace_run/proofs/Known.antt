@@ -3,11 +3,12 @@ use Prim.Native.Nat.{ℕ}
 use mathlib.Core.Path.{◌≡◌, sym, ap, ◌∙◌}
 use mathlib.Core.Bool.{Bool}
 use mathlib.Core.List.{List}
+use Rattle.std.specs.Prelude.{Some}
 use lib.ListN.{length}
 use Rattle.lists.proofs.Tests.{by_test, no_clash}
 use Rattle.rules.specs.declared.Table.{Table}
 use Rattle.rules.specs.declared.Event.{Event}
-use Rattle.rules.specs.declared.Order.TheVariants as order
+use Rattle.rules.specs.declared.Command.TheVariants as command
 use Rattle.rules.specs.Sound.{sound_of}
 use Rattle.rules.specs.Step.{step_of}
 use Rattle.rules.specs.Trace.{obeyed}
@@ -25,6 +26,6 @@ sound_as_before tb e log y = by_test (sound_of tb)
     (λ f. ap (λ s. sound_of s.table) (step_refused tb e log (λ q. no_clash (sound_of tb) (accepted tb e (length log) q).sound f)))
 
 pub known_again : (tb : Table) (e : Event) (log : List ℕ) {sound : Bool} {before after left : List ℕ} {heads rows : List (List ℕ)} {r : Left} → Typed e → sound ≡ sound_of tb
-    → ObeysIn (obeyed order.Step e tb log) before r heads rows left after → r.sound ≡ sound → r.sound ≡ sound_of (table_in heads rows r.capacity r.used)
+    → ObeysIn (obeyed (Some (command.Step e)) tb log) before r heads rows left after → r.sound ≡ sound → r.sound ≡ sound_of (table_in heads rows r.capacity r.used)
 unfolding obeyed
 known_again tb e log y s o k = k ∙ s ∙ sym (sound_as_before tb e log y) ∙ ap sound_of (sym o.table)

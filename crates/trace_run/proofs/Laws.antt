@@ -4,11 +4,12 @@ use native.Mathlib.Omega.{arith}
 use mathlib.Core.Path.{◌≡◌, refl, sym, ap, ◌∙◌}
 use mathlib.Core.Bool.{Bool}
 use mathlib.Core.List.{List, [], map}
+use Rattle.std.specs.Prelude.{Some}
 use lib.ListN.{length}
 use lib.Seq.{sets}
 use Rattle.rules.specs.declared.Table.{Table}
 use Rattle.rules.specs.declared.Event.{Event}
-use Rattle.rules.specs.declared.Order.TheVariants as order
+use Rattle.rules.specs.declared.Command.TheVariants as command
 use Rattle.rules.specs.declared.Signal.{Signal}
 use Rattle.rules.specs.declared.Restarted.{Restarted}
 use Rattle.rules.specs.Sizes.{transaction_places, enlistment_places, signals_most}
@@ -17,12 +18,11 @@ use Rattle.rules.specs.Signals.{row_of}
 use Rattle.rules.specs.Sound.{sound_of}
 use Rattle.rules.specs.Step.{step_of}
 use Rattle.rules.specs.Restart.{IsRestart}
-use Rattle.rules.specs.Trace.{Traced, output_of, obeyed}
+use Rattle.rules.specs.Trace.{Traced, output_of, unreadable, restarting, obeyed}
 use Rattle.rules.proofs.Preserved.{step_few_signals}
 use Rattle.trace_line.proofs.Lines.{row_output}
 use Rattle.rows.specs.Memory.{transaction_in, enlistment_in, table_in}
-use Rattle.entering.specs.declared.Answer.{Answer}
-use Rattle.entering.specs.StepIn.{IsStepIn}
+use Rattle.entering.specs.StepIn.{Answered, IsStepIn}
 use Rattle.trace_run.specs.declared.Left.{Left}
 use Rattle.trace_run.specs.Promises.{Holds, Answers, Obeys, ObeysIn}
 
@@ -53,24 +53,24 @@ answers_obey {tb} {capacity} {used} {why} ss {before} h k t l few a =
     }
 
 -- nothing is changed
-pub unreadable_obeys : {capacity used : ℕ} {sound : Bool} {before after log : List ℕ} {heads rows : List (List ℕ)} {r : Left} (e : Event)
+pub unreadable_obeys : {capacity used : ℕ} {sound : Bool} {before after log : List ℕ} {heads rows : List (List ℕ)} {r : Left}
     → (length heads ≡ transaction_places) × (length rows ≡ enlistment_places) × (sound ≡ sound_of (table_in heads rows capacity used))
     → Answers capacity used sound unreadable_line (row_of []) before r after
-    → ObeysIn (obeyed order.Unreadable e (table_in heads rows capacity used) log) before r heads rows log after × (r.sound ≡ sound_of (table_in heads rows r.capacity r.used))
+    → ObeysIn (obeyed unreadable (table_in heads rows capacity used) log) before r heads rows log after × (r.sound ≡ sound_of (table_in heads rows r.capacity r.used))
 unfolding obeyed
-unreadable_obeys e (h, k, s) a = (answers_obey [] h k refl refl (omega arith) a, rw (a.same_capacity, a.same_used) (a.known ∙ s))
+unreadable_obeys (h, k, s) a = (answers_obey [] h k refl refl (omega arith) a, rw (a.same_capacity, a.same_used) (a.known ∙ s))
 
-pub restart_obeys : (tb : Table) (e : Event) (log : List ℕ) {sound : Bool} {before after left : List ℕ} {heads rows : List (List ℕ)} {x : Restarted} {r : Left}
+pub restart_obeys : (tb : Table) (log : List ℕ) {sound : Bool} {before after left : List ℕ} {heads rows : List (List ℕ)} {x : Restarted} {r : Left}
     → IsRestart log tb.used x left → Holds heads rows x.table → Answers x.table.capacity x.table.used sound x.refusal (row_of []) before r after
-    → ObeysIn (obeyed order.Restart e tb log) before r heads rows left after
+    → ObeysIn (obeyed restarting tb log) before r heads rows left after
 unfolding obeyed
-restart_obeys tb e log (is, l) h a = answers_obey [] h.long_heads h.long_rows (rw is at h.table) l (omega arith) (rw is at a)
+restart_obeys tb log (is, l) h a = answers_obey [] h.long_heads h.long_rows (rw is at h.table) l (omega arith) (rw is at a)
 
-pub step_obeys : {tb : Table} {e : Event} {sound : Bool} {before after log left : List ℕ} {heads rows : List (List ℕ)} {x : Answer} {r : Left}
-    → IsStepIn tb e log x heads rows left → Answers tb.capacity x.used sound x.refusal x.signals before r after
-    → ObeysIn (obeyed order.Step e tb log) before r heads rows left after
+pub step_obeys : {tb : Table} {e : Event} {sound : Bool} {before after log left : List ℕ} {heads rows : List (List ℕ)} {x : Answered} {r : Left}
+    → length heads ≡ transaction_places → length rows ≡ enlistment_places → IsStepIn tb e log x heads rows left → Answers tb.capacity x.used sound x.refusal x.signals before r after
+    → ObeysIn (obeyed (Some (command.Step e)) tb log) before r heads rows left after
 unfolding obeyed
-step_obeys {tb} {e} {log = log} s a = answers_obey (step_of tb e log).signals s.long_heads s.long_rows s.table s.log (step_few_signals tb e log) (rw (s.refusal, s.signals) at a)
+step_obeys {tb} {e} {log = log} h k s a = answers_obey (step_of tb e log).signals h k s.table s.log (step_few_signals tb e log) (rw (s.refusal, s.signals) at a)
 
 -- the table is taken out of the memory
 pub taken_obeys : {t : Traced} {before after log : List ℕ} {heads rows : List (List ℕ)} {r : Left} {tb : Table}

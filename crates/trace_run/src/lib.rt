@@ -2,18 +2,15 @@
 
 #![tactic(auto)]
 
-ghost use Rattle.std.specs.Prelude.{ℕ, ◌≡◌, [], length};
-ghost use Rattle.rules.specs.Sizes.{transaction_places, enlistment_places};
-ghost use Rattle.rules.specs.declared.Event.{Event};
-ghost use Rattle.rules.specs.declared.Order.{Order};
+ghost use Rattle.std.specs.Prelude.{ℕ, ◌≡◌, [], Some};
 ghost use Rattle.rules.specs.RefusalNumber.{unreadable_line};
 ghost use Rattle.rules.specs.Signals.{row_of};
 ghost use Rattle.rules.specs.Sound.{sound_of};
-ghost use Rattle.rules.specs.Trace.{obeyed, traced_of};
+ghost use Rattle.rules.specs.Trace.{obeyed, restarting, traced_of};
 ghost use Rattle.rows.specs.Memory.{table_in};
 ghost use Rattle.trace_run.specs.Promises.{Holds, Answers, Obeys, ObeysIn};
 
-use rules::{Event, Order, Signals, Table, refusal};
+use rules::{Command, Event, Signals, Table, refusal_number};
 use trace_line::OUTPUT;
 
 // The table after the line, and the size of the output line, with its newline.
@@ -34,13 +31,10 @@ pub struct Left {
 
 // A table is put into lent memory, all but its capacity and its used length.
 pub fn put_table(table: Table, heads: &mut [[u8; 17]; 32], rows: &mut [[u8; 24]; 128])
-    requires { (length heads.old ≡ transaction_places) × (length rows.old ≡ enlistment_places) }
     ensures { Holds heads.new rows.new table }
 {
-    let transactions = table.transactions;
-    lent_tables::heads_of(transactions, heads);
-    let enlistments = table.enlistments;
-    lent_tables::rows_of(enlistments, rows);
+    lent_tables::heads_of(table.transactions, heads);
+    lent_tables::rows_of(table.enlistments, rows);
 }
 
 fn answered(
@@ -55,10 +49,10 @@ fn answered(
 {
     let size = trace_line::write_line(why, used, signals, buffer);
     Left {
-        capacity: capacity,
-        used: used,
-        sound: sound,
-        size: size,
+        capacity,
+        used,
+        sound,
+        size,
     }
 }
 
@@ -70,7 +64,7 @@ fn obey_unreadable(capacity: u32, used: u32, sound: bool, buffer: &mut [u8; OUTP
         capacity,
         used,
         sound,
-        refusal::UNREADABLE_LINE,
+        refusal_number::UNREADABLE_LINE,
         none,
         buffer,
     )
@@ -84,15 +78,14 @@ fn obey_restart(
     log: &mut [u8],
     buffer: &mut [u8; OUTPUT],
 ) -> Left
-    requires { (length heads.old ≡ transaction_places) × (length rows.old ≡ enlistment_places) }
-    ensures { ((e : Event) (capacity : ℕ) → ObeysIn (obeyed Order.Restart e (table_in heads.old rows.old capacity used) log.old) buffer.old result heads.new rows.new log.new buffer.new) × (result.sound ≡ sound_of (table_in heads.new rows.new result.capacity result.used)) }
+    ensures { ((capacity : ℕ) → ObeysIn (obeyed restarting (table_in heads.old rows.old capacity used) log.old) buffer.old result heads.new rows.new log.new buffer.new) × (result.sound ≡ sound_of (table_in heads.new rows.new result.capacity result.used)) }
 {
     let r = restart::restart(log, used as usize);
-    let after = r.table;
-    let sound = step::is_sound(after);
-    put_table(after, heads, rows);
+    let table = r.table;
+    let sound = step::is_sound(table);
+    put_table(table, heads, rows);
     let none = signals::to_none();
-    answered(after.capacity, after.used, sound, r.refusal, none, buffer)
+    answered(table.capacity, table.used, sound, r.refusal, none, buffer)
 }
 
 fn obey_step(
@@ -105,12 +98,23 @@ fn obey_step(
     log: &mut [u8],
     buffer: &mut [u8; OUTPUT],
 ) -> Left
-    requires { (length heads.old ≡ transaction_places) × (length rows.old ≡ enlistment_places) × (sound ≡ sound_of (table_in heads.old rows.old capacity used)) }
-    ensures { ObeysIn (obeyed Order.Step event (table_in heads.old rows.old capacity used) log.old) buffer.old result heads.new rows.new log.new buffer.new × (result.sound ≡ sound) }
+    requires { sound ≡ sound_of (table_in heads.old rows.old capacity used) }
+    ensures { ObeysIn (obeyed (Some (Command.Step event)) (table_in heads.old rows.old capacity used) log.old) buffer.old result heads.new rows.new log.new buffer.new × (result.sound ≡ sound) }
 {
-    let a = step::step_in(heads, rows, capacity, used, sound, event, log);
-    let signals = a.signals;
-    answered(capacity, a.used, sound, a.refusal, signals, buffer)
+    match step::step_in(heads, rows, capacity, used, sound, event, log) {
+        Ok(a) => answered(
+            capacity,
+            a.used,
+            sound,
+            refusal_number::ACCEPTED,
+            a.signals,
+            buffer,
+        ),
+        Err(refusal) => {
+            let none = signals::to_none();
+            answered(capacity, used, sound, u8::from(refusal), none, buffer)
+        }
+    }
 }
 
 // For a caller that knows whether its table is sound, and is told it of the next.
@@ -124,16 +128,15 @@ pub fn obey_in(
     log: &mut [u8],
     buffer: &mut [u8; OUTPUT],
 ) -> Left
-    requires { (length heads.old ≡ transaction_places) × (length rows.old ≡ enlistment_places) × (sound ≡ sound_of (table_in heads.old rows.old capacity used)) }
+    requires { sound ≡ sound_of (table_in heads.old rows.old capacity used) }
     ensures { ObeysIn (traced_of line.now (table_in heads.old rows.old capacity used) log.old) buffer.old result heads.new rows.new log.new buffer.new × (result.sound ≡ sound_of (table_in heads.new rows.new result.capacity result.used)) }
 {
-    let command = trace_line::read_line(line);
-    let order = command.order;
-    let event = command.event;
-    match order {
-        Order::Unreadable => obey_unreadable(capacity, used, sound, buffer),
-        Order::Restart => obey_restart(heads, rows, used, log, buffer),
-        Order::Step => obey_step(event, heads, rows, capacity, used, sound, log, buffer),
+    match trace_line::read_line(line) {
+        None => obey_unreadable(capacity, used, sound, buffer),
+        Some(Command::Restart) => obey_restart(heads, rows, used, log, buffer),
+        Some(Command::Step(event)) => {
+            obey_step(event, heads, rows, capacity, used, sound, log, buffer)
+        }
     }
 }
 
@@ -154,9 +157,8 @@ pub fn obey(line: &[u8], table: Table, log: &mut [u8], buffer: &mut [u8; OUTPUT]
         log,
         buffer,
     );
-    let after = lent_tables::table_in(&heads, &rows, left.capacity, left.used);
     Obeyed {
-        table: after,
+        table: lent_tables::table_in(&heads, &rows, left.capacity, left.used),
         size: left.size,
     }
 }

@@ -2,7 +2,7 @@
 
 #![tactic(auto)]
 
-ghost use Rattle.std.specs.Prelude.{◌≡◌, ◌+◌, ◌≤◌, min, leb, length};
+ghost use Rattle.std.specs.Prelude.{◌≡◌, ◌+◌, ◌≤◌, leb, length};
 ghost use Rattle.trace_parts.specs.Puts.{output_most};
 ghost use Rattle.trace_session.specs.Bytes.{index_of, slice};
 ghost use Rattle.trace_session.specs.Counts.{line_kept, room, Keeps, Parts, flushed_of};
@@ -32,6 +32,7 @@ pub struct Session {
 }
 
 // A part of a block: where it ends, whether a newline stands there, and how much of the block is taken with it.
+// Not an Option of the end: the trace program uses all three, whether a newline stands there or not.
 #[derive(Clone, Copy)]
 pub struct Part {
     pub end: usize,
@@ -39,18 +40,12 @@ pub struct Part {
     pub taken: usize,
 }
 
-fn least(a: usize, b: usize) -> usize
-    ensures { result ≡ min a b }
-{
-    if a < b { a } else { b }
-}
-
 // More bytes of the present line; gives how many of it are kept then.
 pub fn keep(line: &mut [u8], kept: usize, more: &[u8]) -> usize
     requires { (kept ≤ line_kept) × (length line.old ≡ line_kept) }
     ensures { Keeps kept line.old more.now result line.new }
 {
-    let n = least(more.len(), KEPT - kept);
+    let n = more.len().min(KEPT - kept);
     trace_parts::put_text(line, kept, &more[..n])
 }
 
@@ -59,13 +54,10 @@ fn find(block: &[u8], from: usize, to: usize, byte: u8) -> usize
     requires { (from ≤ to) × (to ≤ length block.now) }
     ensures { (result ≡ from + index_of byte (slice from to block.now)) × (result ≤ to) }
 {
-    let mut i = from;
-    while i < to {
-        let here = block[i] == byte;
-        if here {
+    for i in from..to {
+        if block[i] == byte {
             return i;
         }
-        i += 1;
     }
     to
 }
@@ -76,19 +68,9 @@ pub fn part_of(block: &[u8], from: usize) -> Part
     ensures { Parts block.now from result }
 {
     let end = find(block, from, block.len(), NEWLINE);
-    if end < block.len() {
-        Part {
-            end,
-            whole: true,
-            taken: end + 1,
-        }
-    } else {
-        Part {
-            end,
-            whole: false,
-            taken: end,
-        }
-    }
+    let whole = end < block.len();
+    let taken = if whole { end + 1 } else { end };
+    Part { end, whole, taken }
 }
 
 // For another output line.
@@ -103,8 +85,9 @@ pub fn has_room(s: Session) -> bool
 pub fn flushed(s: Session, writable: bool) -> Session
     ensures { result ≡ flushed_of s writable }
 {
-    let mut after = s;
-    after.waiting = 0;
-    after.writable = writable;
-    after
+    Session {
+        waiting: 0,
+        writable,
+        ..s
+    }
 }

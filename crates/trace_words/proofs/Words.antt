@@ -1,21 +1,24 @@
 -- What the code knows of a word or of a line's first space gives what the definitions say of it. Each law goes along the bytes.
 use Prim.Native.Nat.{ℕ, suc, ◌+◌, ◌-◌, ◌*◌, ◌≤◌, ◌<◌}
 use native.Mathlib.Omega.{arith}
-use mathlib.Core.Path.{◌≡◌, refl, sym, ◌∙◌, ap}
-use mathlib.Core.Bool.{Bool, true, false, cond, not, ◌&&◌, ◌||◌, and-true, and-false}
+use mathlib.Core.Path.{◌≡◌, refl, sym, ◌∙◌}
+use mathlib.Core.Bool.{Bool, true, false, cond, ◌&&◌, and-true, and-false}
 use mathlib.Core.List.{List, [], ◌∷◌, ◌++◌}
+use Rattle.std.specs.Prelude.{Option, Some, None, Result, Ok, Err, option_map, option_and_then, unwrap_or}
+use Rattle.std.specs.Result.{OkIff, result_ok}
+use Rattle.std.specs.List.{position, position_or_len, slice_get}
+use Rattle.std.proofs.lemmas.List.Recursion.{is_position_or_len}
 use lib.Dec.{eqb, leb, ltb}
 use lib.ListN.{length, get_or, take, drop, replicate, length-drop}
 use lib.Seq.{take_all}
 use borrow.Author.Tests.{eq-eqb, ne_eqb, le-leb, lt-leb, leb-true, leb-false, ltb-true, ltb-false}
 use Rattle.lists.specs.Lists.{all}
-use Rattle.lists.proofs.Tests.{by_test, true_and, or_true}
-use mathlib.Core.Logic.{inr}
+use Rattle.lists.proofs.Tests.{by_test, by_either, or_true}
+use mathlib.Core.Logic.{◌⊎◌, inr}
 use Rattle.rules.specs.Sizes.{largest_number}
-use Rattle.rules.specs.Identifiers.{same_bytes, zero_id}
-use Rattle.rules.specs.Trace.{words, space, digit_zero, is_digit, value_from, value_of, is_numeral, is_number_word, is_identifier_word}
-use Rattle.lists.proofs.Loops.{drop_at, drop_done, Ahead, ahead_next, ahead_done}
-use Rattle.trace_words.specs.Words.{word_end, no_number, extended_of, digits_value, numeral_of, number_of, identifier_word_of}
+use Rattle.rules.specs.Trace.{words, space, digit_zero, is_digit, value_from, value_of, is_numeral}
+use Rattle.lists.proofs.Loops.{drop_at, drop_done, Ahead, ahead_next, ahead_stop, ahead_done}
+use Rattle.trace_words.specs.Words.{word_end, extended_of, digits_value, number_of, identifier_word_of}
 
 -- ── the words of a line ─────────────────────────────────────────────────────────────────────────────────────────
 
@@ -52,128 +55,123 @@ some_words g h s = by_test (ltb (word_end s) (length s))
     (λ t. rw (words_more s (ltb-true (word_end s) (length s) t)) (h (take (word_end s) s) (words (drop (suc (word_end s)) s))))
     (λ t. rw (words_one s (ltb-false (word_end s) (length s) t)) (h s []))
 
--- words of another length differ
-pub other_length : (a b : List ℕ) → (length a ≡ length b → ⊥) → same_bytes a b ≡ false
-unfolding same_bytes
-other_length [] [] h = absurd (h refl)
-other_length [] (y ∷ ys) h = refl
-other_length (x ∷ xs) [] h = refl
-other_length (x ∷ xs) (y ∷ ys) h = by_test (eqb x y)
-    (λ e. rw e (other_length xs ys (λ f. h (ap suc f))))
-    (λ e. rw e)
+-- the first space as the library finds it, and the length where there is none
+word_end_within : (s : List ℕ) → word_end s ≤ length s
+unfolding word_end
+word_end_within [] = omega arith
+word_end_within (b ∷ bs) =
+    let h : word_end bs ≤ length bs = word_end_within bs in
+    by_test (eqb b space) (λ e. rw e (omega arith)) (λ e. rw e (omega arith))
+
+word_end_is : (s : List ℕ) → word_end s ≡ position_or_len (λ b. eqb b space) s
+unfolding word_end
+word_end_is s =
+    is_position_or_len word_end (λ b. eqb b space) refl
+    (λ b bs. by_test (eqb b space) (λ e. rw e) (λ e. rw e (omega arith))) s
+
+pub word_end_found : (s : List ℕ) {r : Option ℕ} → r ≡ position (λ b. eqb b space) s
+    → unwrap_or r (length s) ≡ word_end s
+word_end_found s {r} e = by_test (ltb (word_end s) (length s))
+    (λ t. rw (e, ← word_end_is s, t))
+    (λ t.
+    let h : word_end s ≤ length s = word_end_within s in
+    rw (e, ← word_end_is s, t) (omega (arith, ltb-false (word_end s) (length s) t)))
 
 -- ── numbers ─────────────────────────────────────────────────────────────────────────────────────────────────────
 
 -- the value so far, extended by each of the bytes
-unfoldable pub extended_by : ℕ → List ℕ → ℕ
-extended_by n [] = n
-extended_by n (b ∷ bs) = extended_by (extended_of n b) bs
+unfoldable pub extended_by : ℕ → List ℕ → Option ℕ
+extended_by n [] = Some n
+extended_by n (b ∷ bs) = option_and_then (λ m. extended_by m bs) (extended_of n b)
 
 value_grows : (n : ℕ) (w : List ℕ) → n ≤ value_from n w
 unfolding value_from
 value_grows n [] = omega arith
-value_grows n (b ∷ bs) = let h : 10 * n + (b - digit_zero) ≤ value_from (10 * n + (b - digit_zero)) bs = value_grows (10 * n + (b - digit_zero)) bs in omega arith
+value_grows n (b ∷ bs) =
+    let m : ℕ = 10 * n + (b - digit_zero) in
+    let h : m ≤ value_from m bs = value_grows m bs in
+    omega arith
 
--- once too large, always too large
-no_number_lem : (w : List ℕ) → extended_by no_number w ≡ no_number
-unfolding extended_by extended_of
-no_number_lem [] = refl
-no_number_lem (b ∷ bs) = no_number_lem bs
-
-too_large : (a : Bool) (v : ℕ) → largest_number < v → cond (a && leb v largest_number) v no_number ≡ no_number
+too_large : (a : Bool) (v : ℕ) → largest_number < v → cond (a && leb v largest_number) (Some v) None ≡ None
 too_large true v h = rw (lt-leb v largest_number h)
 too_large false v h = refl
 
 by_digits : (n : ℕ) (w : List ℕ) → n ≤ largest_number
-    → extended_by n w ≡ cond (all is_digit w && leb (value_from n w) largest_number) (value_from n w) no_number
-unfolding extended_by extended_of all value_from
+    → extended_by n w ≡ cond (all is_digit w && leb (value_from n w) largest_number) (Some (value_from n w)) None
+unfolding extended_by all value_from
 by_digits n [] h = rw (le-leb n largest_number h)
-by_digits n (b ∷ bs) h = by_test (is_digit b)
-    (λ d. by_test (leb (10 * n + (b - digit_zero)) largest_number)
-    (λ l. rw (le-leb n largest_number h, d, l) (by_digits (10 * n + (b - digit_zero)) bs (leb-true _ _ l)))
+by_digits n (b ∷ bs) h =
+    let m = 10 * n + (b - digit_zero) in
+    by_test (is_digit b)
+    (λ d. by_test (leb m largest_number)
+    (λ l. rw (d, l) (by_digits m bs (leb-true _ _ l)))
     (λ l.
-    let v = value_from (10 * n + (b - digit_zero)) bs in
-    let g : largest_number < v = omega (arith, leb-false (10 * n + (b - digit_zero)) largest_number l, value_grows (10 * n + (b - digit_zero)) bs) in
-    rw (le-leb n largest_number h, d, l) (no_number_lem bs ∙ sym (too_large (all is_digit bs) v g))))
-    (λ d. rw (le-leb n largest_number h, d) (no_number_lem bs))
+    let g : largest_number < value_from m bs = omega (arith, leb-false m largest_number l, value_grows m bs) in
+    rw (d, l) (sym (too_large (all is_digit bs) (value_from m bs) g))))
+    (λ d. rw d)
 
 -- a loop that extends n by each byte of w
-pub record Extended (w : List ℕ) (n i : ℕ) : Type 0 where
-  pub within : i ≤ length w
-  pub ahead : Ahead (extended_by n) w (extended_by 0 w) i
+abbrev pub Extended : List ℕ → ℕ → ℕ → Type 0
+Extended w n i = Ahead (extended_by n) w (extended_by 0 w) i
 
-module _ {w : List ℕ} where
-  pub extended_start : Extended w 0 0
-  extended_start = record { within = omega arith; ahead = record { same = refl } }
-
-  pub extended_again : {n i m : ℕ} → Extended w n i → i < length w → m ≡ extended_of n (get_or w i 0) → Extended w m (i + 1)
+module _ {w : List ℕ} {i : ℕ} (n : ℕ) (p : Extended w n i) where
+  pub extended_again : (m : ℕ) → i < length w → Some m ≡ extended_of n (get_or w i 0) → Extended w m (i + 1)
   unfolding extended_by
-  extended_again {n} {i} p h e = record { within = omega arith; ahead = ahead_next p.ahead (drop_at w i 0 h) (rw e) }
+  extended_again m h e = ahead_next p (drop_at w i 0 h) (rw (← e))
 
-  pub extended_done : {n i : ℕ} → Extended w n i → length w ≤ i → n ≡ digits_value w
+  pub extended_no_more : i < length w → None ≡ extended_of n (get_or w i 0) → None ≡ digits_value w
   unfolding extended_by digits_value
-  extended_done {n} {i} p h = ahead_done p.ahead (drop_done w i h) refl ∙ by_digits 0 w (omega arith)
+  extended_no_more h e = ahead_stop p (drop_at w i 0 h) (rw (← e)) ∙ by_digits 0 w (omega arith)
+
+  pub extended_done : length w ≤ i → Some n ≡ digits_value w
+  unfolding extended_by digits_value
+  extended_done h = ahead_done p (drop_done w i h) refl ∙ by_digits 0 w (omega arith)
 
 -- ── leading zeros ───────────────────────────────────────────────────────────────────────────────────────────────
 
-module _ (b : ℕ) (bs : List ℕ) where
-  led_well : (eqb (length bs) 0 || not (eqb b digit_zero)) ≡ true → digits_value (b ∷ bs) ≡ numeral_of (b ∷ bs)
-  unfolding digits_value numeral_of is_numeral
-  led_well e = rw (e, and-true (all is_digit (b ∷ bs)))
+-- what the first byte says
+pub no_word : (w : List ℕ) → None ≡ slice_get w 0 → None ≡ number_of w
+unfolding number_of is_numeral
+no_word [] e = refl
+no_word (b ∷ bs) e = absurd (cc)
 
-  led_by_zero : (eqb (length bs) 0 || not (eqb b digit_zero)) ≡ false → no_number ≡ numeral_of (b ∷ bs)
-  unfolding numeral_of is_numeral
-  led_by_zero e = rw (e, and-false (all is_digit (b ∷ bs)))
+pub leading_zero : (w : List ℕ) {b : ℕ} → Some b ≡ slice_get w 0 → b ≡ digit_zero → 1 < length w
+    → None ≡ number_of w
+unfolding number_of is_numeral
+leading_zero [] e z more = absurd (cc)
+leading_zero (b ∷ bs) e z more =
+    let f : b ≡ digit_zero = cc in
+    rw (ne_eqb (length bs) 0 (omega arith), eq-eqb b digit_zero f, and-false (all is_digit (b ∷ bs)))
 
-pub no_word : (w : List ℕ) → length w ≡ 0 → no_number ≡ numeral_of w
-unfolding numeral_of is_numeral
-no_word [] h = refl
-no_word (b ∷ bs) h = absurd (omega arith)
+pub no_leading_zero : (w : List ℕ) {b : ℕ} → Some b ≡ slice_get w 0
+    → ((b ≡ digit_zero) × (length w ≤ 1)) ⊎ (b ≡ digit_zero → ⊥) → digits_value w ≡ number_of w
+unfolding number_of is_numeral digits_value
+no_leading_zero [] e h = absurd (cc)
+no_leading_zero (b ∷ bs) e h = by_either
+    (λ (z, l). rw (eq-eqb (length bs) 0 (omega arith), and-true (all is_digit (b ∷ bs))))
+    (λ n.
+    let led = or_true (eqb (length bs) 0) true (inr refl) in
+    rw (ne_eqb b digit_zero (λ z. n (cc)), led, and-true (all is_digit (b ∷ bs))))
+    h
 
-pub one_digit : (w : List ℕ) → length w ≡ 1 → digits_value w ≡ numeral_of w
-one_digit [] h = absurd (omega arith)
-one_digit (b ∷ bs) h = led_well b bs (rw (eq-eqb (length bs) 0 (omega arith)))
+-- ── identifiers ─────────────────────────────────────────────────────────────────────────────────────────────────
 
-pub leading_zero : (w : List ℕ) → (length w ≡ 0 → ⊥) → (length w ≡ 1 → ⊥) → eqb (get_or w 0 0) digit_zero ≡ true → no_number ≡ numeral_of w
-leading_zero [] some more z = absurd (some refl)
-leading_zero (b ∷ bs) some more z = led_by_zero b bs (rw (ne_eqb (length bs) 0 (λ e. more (ap suc e)), z))
+-- a number as one byte
+unfoldable pub byte_of : ℕ → Option ℕ
+byte_of n = cond (leb n 255) (Some n) None
 
-pub no_leading_zero : (w : List ℕ) → (length w ≡ 0 → ⊥) → eqb (get_or w 0 0) digit_zero ≡ false → digits_value w ≡ numeral_of w
-no_leading_zero [] some z = absurd (some refl)
-no_leading_zero (b ∷ bs) some z = led_well b bs (rw z (or_true (eqb (length bs) 0) true (inr refl)))
+pub as_byte : {E : Type 0} (r : Result ℕ E) (n : ℕ) {o : Option ℕ} → OkIff r (n < 256) n → o ≡ result_ok r
+    → o ≡ byte_of n
+unfolding byte_of
+as_byte (Ok x) n (h, e) q = q ∙ rw (e, le-leb n 255 (omega arith))
+as_byte (Err x) n h q = q ∙ by_test (leb n 255) (λ t. absurd (h (omega (arith, leb-true n 255 t)))) (λ t. rw t)
 
--- ── a word that names something ─────────────────────────────────────────────────────────────────────────────────
-
-module _ {n : ℕ} (w : List ℕ) (same : n ≡ numeral_of w) where
-  pub number_read : n ≤ largest_number → record { readable = true; value = n } ≡ number_of w
-  unfolding numeral_of number_of
-  number_read h = by_test (is_number_word w)
-      (λ e. let v : n ≡ value_of w = rw e at same in rw (e, v))
-      (λ e. let v : n ≡ no_number = rw e at same in absurd (omega arith))
-
-  pub number_unread : largest_number < n → record { readable = false; value = 0 } ≡ number_of w
-  unfolding numeral_of number_of
-  number_unread h = by_test (is_number_word w)
-      (λ e.
-      let v : n ≡ value_of w = rw e at same in
-      let l : value_of w ≤ largest_number = leb-true (value_of w) largest_number (true_and (is_numeral w) (leb (value_of w) largest_number) e).1 in
-      absurd (omega arith))
-      (λ e. rw e)
-
-  pub identifier_read : n ≤ 255 → record { readable = true; bytes = replicate 15 0 ++ (n ∷ []) } ≡ identifier_word_of w
-  unfolding numeral_of identifier_word_of
-  identifier_read h = by_test (is_number_word w)
-      (λ e.
-      let v : n ≡ value_of w = rw e at same in
-      rw ((true_and (is_numeral w) (leb (value_of w) largest_number) e).0, le-leb (value_of w) 255 (omega arith), v))
-      (λ e. let v : n ≡ no_number = rw e at same in absurd (omega arith))
-
-  pub identifier_unread : 255 < n → record { readable = false; bytes = zero_id } ≡ identifier_word_of w
-  unfolding numeral_of identifier_word_of
-  identifier_unread h = by_test (is_identifier_word w)
-      (λ e.
-      let d : is_numeral w ≡ true = (true_and (is_numeral w) (leb (value_of w) 255) e).0 in
-      let l : value_of w ≤ 255 = leb-true (value_of w) 255 (true_and (is_numeral w) (leb (value_of w) 255) e).1 in
-      let v : n ≡ value_of w = rw (d, le-leb (value_of w) largest_number (omega arith)) at same in
-      absurd (omega arith))
-      (λ e. rw e)
+-- what stands last in an identifier is a number of one byte
+pub identifier_is : (w : List ℕ)
+    → option_map (λ n. replicate 15 0 ++ (n ∷ [])) (option_and_then byte_of (number_of w)) ≡ identifier_word_of w
+unfolding number_of identifier_word_of byte_of
+identifier_is w = by_test (is_numeral w)
+    (λ d. by_test (leb (value_of w) 255)
+    (λ t. rw (d, t, le-leb (value_of w) largest_number (omega (arith, leb-true (value_of w) 255 t)), t))
+    (λ f. by_test (leb (value_of w) largest_number) (λ t. rw (d, f, t, f)) (λ t. rw (d, f, t))))
+    (λ d. rw d)

@@ -3,7 +3,7 @@
 
 #![tactic(auto)]
 
-ghost use Rattle.std.specs.Prelude.{◌≡◌, ◌+◌, ◌≤◌, length};
+ghost use Rattle.std.specs.Prelude.{◌≡◌, ◌≤◌, length, IfSome};
 ghost use Rattle.rules.specs.Trace.{trace_capacity};
 
 use rules::{Name, Signal, Signals, Table, sizes};
@@ -19,9 +19,6 @@ const LARGEST: u64 = 65536;
 
 const MEMORY: usize = 4096;
 
-// Stands for no number, since none is so large.
-const NOTHING: usize = MEMORY + 1;
-
 // The table, and how much of the memory is the log.
 #[derive(Clone, Copy)]
 struct Story {
@@ -29,58 +26,30 @@ struct Story {
     capacity: usize,
 }
 
-fn begins(line: &[u8], word: &[u8]) -> bool {
-    if line.len() < word.len() {
-        return false;
-    }
-    let mut i: usize = 0;
-    while i < word.len() {
-        let same = line[i] == word[i];
-        if same {
-            i += 1;
-        } else {
-            return false;
-        }
-    }
-    true
-}
-
-fn wide(b: u8) -> usize {
-    b as usize
-}
-
 // A number with one digit more, whose byte is 0x30 to 0x39; none is larger than the memory.
 fn extended(n: usize, digit: u8) -> usize
     requires { n ≤ trace_capacity }
     ensures { result ≤ trace_capacity }
 {
-    let more = n * 10 + wide(digit) % 16;
-    if more <= MEMORY { more } else { MEMORY }
+    (n * 10 + usize::from(digit) % 16).min(MEMORY)
 }
 
 fn number(digits: &[u8]) -> usize
     ensures { result ≤ trace_capacity }
 {
     let mut n: usize = 0;
-    let mut i: usize = 0;
-    while i < digits.len() {
-        let more = extended(n, digits[i]);
-        n = more;
-        i += 1;
+    for digit in digits {
+        n = extended(n, *digit);
     }
     n
 }
 
 // The number behind a word that a line begins with.
-fn number_behind(line: &[u8], word: &[u8]) -> usize
-    ensures { result ≤ trace_capacity + 1 }
+fn number_behind(line: &[u8], word: &[u8]) -> Option<usize>
+    ensures { IfSome result (λ n. n ≤ trace_capacity) }
 {
-    let at = word.len();
-    if line.len() < at {
-        return NOTHING;
-    }
-    let there = begins(line, word);
-    if there { number(&line[at..]) } else { NOTHING }
+    let digits = line.strip_prefix(word)?;
+    Some(number(digits))
 }
 
 fn print_restart(refusal: u8, used: u32) {
@@ -102,16 +71,11 @@ fn restarted(memory: &mut [u8], capacity: usize, stored: usize) -> Story
     ensures { result.capacity ≡ capacity }
 {
     let r = restart::restart(&mut memory[..capacity], stored);
-    let table = r.table;
-    print_restart(r.refusal, table.used);
+    print_restart(r.refusal, r.table.used);
     Story {
-        table: table,
-        capacity: capacity,
+        table: r.table,
+        capacity,
     }
-}
-
-fn less(a: usize, b: usize) -> usize {
-    if b <= a { a - b } else { 0 }
 }
 
 // A line of the trace program.
@@ -119,16 +83,12 @@ fn obeyed(s: Story, line: &[u8], memory: &mut [u8]) -> Story
     requires { s.capacity ≤ length memory.old }
     ensures { result.capacity ≡ s.capacity }
 {
-    let capacity = s.capacity;
-    let table = s.table;
     let mut buffer = [0u8; OUTPUT];
-    let o = trace_run::obey(line, table, &mut memory[..capacity], &mut buffer);
-    let size = o.size;
-    io::write_all(STDOUT_FILENO, &buffer[..size]);
-    let after = o.table;
+    let o = trace_run::obey(line, s.table, &mut memory[..s.capacity], &mut buffer);
+    io::write_all(STDOUT_FILENO, &buffer[..o.size]);
     Story {
-        table: after,
-        capacity: capacity,
+        table: o.table,
+        capacity: s.capacity,
     }
 }
 
@@ -136,14 +96,11 @@ fn told(s: Story, line: &[u8], memory: &mut [u8]) -> Story
     requires { (s.capacity ≤ length memory.old) × (length memory.old ≡ trace_capacity) }
     ensures { result.capacity ≤ trace_capacity }
 {
-    let capacity = number_behind(line, b"log ");
-    if capacity < NOTHING {
+    if let Some(capacity) = number_behind(line, b"log ") {
         return restarted(memory, capacity, 0);
     }
-    let lost = number_behind(line, b"torn ");
-    if lost < NOTHING {
-        let table = s.table;
-        let stored = less(table.used as usize, lost);
+    if let Some(lost) = number_behind(line, b"torn ") {
+        let stored = (s.table.used as usize).saturating_sub(lost);
         return restarted(memory, s.capacity, stored);
     }
     obeyed(s, line, memory)
@@ -151,18 +108,15 @@ fn told(s: Story, line: &[u8], memory: &mut [u8]) -> Story
 
 fn run(text: &[u8]) {
     let mut memory = [0u8; MEMORY];
-    let started = restart::restart(&mut memory, 0);
-    let table = started.table;
     let mut s = Story {
-        table: table,
+        table: restart::restart(&mut memory, 0).table,
         capacity: MEMORY,
     };
     let mut at: usize = 0;
+    // Not a `for`: it goes on by lines.
     while at < text.len() {
-        let part = trace_session::part_of(text, at);
-        let end = part.end;
-        let next = told(s, &text[at..end], &mut memory);
-        s = next;
+        let end = trace_session::part_of(text, at).end;
+        s = told(s, &text[at..end], &mut memory);
         at = end + 1;
     }
 }

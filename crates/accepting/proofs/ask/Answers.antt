@@ -1,34 +1,39 @@
--- The state that is tested is that of its place, and the first two tests together say that it is over, so that the code takes the branch of the definition.
-use mathlib.Core.Path.{refl, ap, ◌∙◌}
+-- The state that is tested is that of its place, so that the code takes the branch of the definition.
+use native.Mathlib.Omega.{arith}
+use mathlib.Core.Path.{◌≡◌, refl, ap, ◌∙◌}
+use borrow.Author.Tests.{eq-eqb, ne_eqb}
+use Rattle.std.proofs.Common.{rules}
 use Rattle.rules.specs.Events.{told_again, ask_of}
 use Rattle.holdings.specs.Holdings.{alone}
 use Rattle.holdings.proofs.Laws.{alone_at, alone_held}
+use Rattle.accepting.proofs.Laws.{over, not_over}
 use Rattle.accepting.proofs.ask.Goals as goal
 
-pub returns-then-unknown : goal.returns-then-unknown
+pub returns-in-0 : goal.returns-in-0
 unfolding ask_of
-returns-then-unknown c = λ log. rw (ap (λ x. x.state) (alone_at c.args.h c.requires), c.if-unknown.true-raw) (record { table = refl; place = refl; signals = c.to_one-signals.ensures; log = refl })
+returns-in-0 c = λ log. rw (ap (λ x. x.state) (alone_at c.args.h c.requires), over c.in-0.is) (record { table = refl; place = refl; signals = c.to_one.ensures; log = refl })
 
-pub returns-then-aborting : goal.returns-then-aborting
+pub returns-in-5 : goal.returns-in-5
 unfolding ask_of
-returns-then-aborting c = λ log. rw (ap (λ x. x.state) (alone_at c.args.h c.requires), c.if-unknown.false-raw, c.if-aborting.true-raw) (record { table = refl; place = refl; signals = c.to_one-signals-then-aborting.ensures; log = refl })
-
-pub returns-then-decided : goal.returns-then-decided
-unfolding ask_of
-returns-then-decided c =
-    λ log. rw (ap (λ x. x.state) (alone_at c.args.h c.requires), c.if-unknown.false-raw, c.if-aborting.false-raw, c.if-decided.true-raw) (record {
-      table = ap alone c.tell_again-after.ensures ∙ alone_held (told_again c.args.rm) c.args.h;
-      place = ap (λ g. g.place) c.tell_again-after.ensures;
-      signals = rw (← ap (λ e. e.number) c.undone-e.ensures) c.to_one-signals-then-decided.ensures;
+returns-in-5 c =
+    let m : c.args.h.transaction.state ≡ 0 → ⊥ = omega (arith, c.in-5.is) in
+    let n : c.args.h.transaction.state ≡ 6 → ⊥ = omega (arith, c.in-5.is) in
+    λ log. rw (ap (λ x. x.state) (alone_at c.args.h c.requires), not_over m n, eq-eqb _ _ c.in-5.is) (record {
+      table = ap alone c.tell_again.ensures ∙ alone_held (told_again c.args.rm) c.args.h;
+      place = ap (λ g. g.place) c.tell_again.ensures;
+      signals = rw (← ap (λ e. e.number) c.undone-e.ensures) c.to_one-in-5.ensures;
       log = refl;
     })
 
-pub returns : goal.returns
+pub returns-in_default : goal.returns-in_default
 unfolding ask_of
-returns c =
-    λ log. rw (ap (λ x. x.state) (alone_at c.args.h c.requires), c.if-unknown.false-raw, c.if-aborting.false-raw, c.if-decided.false-raw) (record {
+returns-in_default c =
+    let m : c.args.h.transaction.state ≡ 0 → ⊥ = search rules in
+    let n : c.args.h.transaction.state ≡ 6 → ⊥ = search rules in
+    let o : c.args.h.transaction.state ≡ 5 → ⊥ = search rules in
+    λ log. rw (ap (λ x. x.state) (alone_at c.args.h c.requires), not_over m n, ne_eqb _ _ o) (record {
       table = refl;
       place = refl;
-      signals = rw (← ap (λ e. e.number) c.undone-e.ensures) c.to_one-signals-2.ensures;
+      signals = rw (← ap (λ e. e.number) c.undone-e.ensures) c.to_one-in_default.ensures;
       log = refl;
     })

@@ -2,6 +2,7 @@
 use mathlib.Core.Path.{sym, ap, ◌∙◌}
 use mathlib.Core.Bool.{not}
 use lib.Dec.{eqb}
+use borrow.Author.Tests.{eq-eqb, ne_eqb}
 use Rattle.lists.proofs.Loops.{any_count}
 use Rattle.rules.specs.Table.{is_in}
 use Rattle.rules.specs.EnlistmentState.{preparing}
@@ -10,10 +11,10 @@ use Rattle.passes.specs.Census.{census_of}
 use Rattle.accepting.proofs.Laws.{quiet_gives}
 use Rattle.accepting.proofs.decide_if_ready.Goals as goal
 
-pub returns-then-waits : goal.returns-then-waits
+pub returns-then-census-eq0 : goal.returns-then-census-eq0
 unfolding follow census_of
-returns-then-waits c = rw (any_count (is_in preparing), sym (ap (λ m. not (eqb m.preparing 0)) c.count-c.ensures) ∙ c.if-waits.true-raw) (quiet_gives c.args.h c.quietly.ensures _)
+returns-then-census-eq0 c = rw (any_count (is_in preparing), sym (ap (λ m. not (eqb m.preparing 0)) c.count-census.ensures) ∙ ap not (eq-eqb _ _ c.if-census-eq0.true)) c.decide.ensures
 
-pub returns : goal.returns
+pub returns-else-census-eq0 : goal.returns-else-census-eq0
 unfolding follow census_of
-returns c = rw (any_count (is_in preparing), sym (ap (λ m. not (eqb m.preparing 0)) c.count-c.ensures) ∙ c.if-waits.false-raw) c.decide.ensures
+returns-else-census-eq0 c = rw (any_count (is_in preparing), sym (ap (λ m. not (eqb m.preparing 0)) c.count-census.ensures) ∙ ap not (ne_eqb _ _ c.if-census-eq0.false)) (quiet_gives c.args.h c.quietly.ensures _)

@@ -9,8 +9,8 @@ pub returns : goal.returns
 unfolding follow
 returns c =
     record {
-      table = ap (λ a. alone a.holding) c.quietly.ensures ∙ c.end_if_done-after.ensures.table;
-      place = ap (λ a. a.holding.place) c.quietly.ensures ∙ c.end_if_done-after.ensures.place;
+      table = ap (λ a. alone a.holding) c.quietly.ensures ∙ c.end_if_done.ensures.table;
+      place = ap (λ a. a.holding.place) c.quietly.ensures ∙ c.end_if_done.ensures.place;
       signals = rw (end_if_done_quiet c.args.h.place (alone c.args.h) c.args.log.now) (ap (λ a. a.signals) c.quietly.ensures);
-      log = c.end_if_done-after.ensures.log;
+      log = c.end_if_done.ensures.log;
     }

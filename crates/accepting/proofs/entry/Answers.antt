@@ -1,12 +1,12 @@
 -- The code asks what the definition asks, whether phase zero is under way, and in both cases fills in the same fields.
-use mathlib.Core.Path.{sym, ◌∙◌}
+use mathlib.Core.Path.{refl, sym, ◌∙◌}
 use Rattle.rules.specs.Events.{new_enlistment}
 use Rattle.accepting.proofs.entry.Goals as goal
-
-pub returns-then-at_once : goal.returns-then-at_once
-unfolding new_enlistment
-returns-then-at_once c = let so = sym c.is_zero_at_once-at_once.ensures ∙ c.if-at_once.true in (rw (so, ← c.kind_of-k.ensures, ← c.mark_of-m.ensures), rw so c.to_one-signals.ensures)
+use Rattle.accepting.proofs.entry.Goals.{then-is_zero_at_once, else-is_zero_at_once}
 
 pub returns : goal.returns
 unfolding new_enlistment
-returns c = let so = sym c.is_zero_at_once-at_once.ensures ∙ c.if-at_once.false in (rw (so, ← c.kind_of-k.ensures, ← c.mark_of-m.ensures), rw so c.to_none-signals.ensures)
+returns c = elim c.if-is_zero_at_once.branch [
+  | then-is_zero_at_once w ↦ rw (w.first-is, sym c.is_zero_at_once.ensures ∙ w.if-is_zero_at_once.true, c.from.ensures, c.mark_of.ensures) (refl, w.to_one.ensures)
+  | else-is_zero_at_once w ↦ rw (w.first-is, sym c.is_zero_at_once.ensures ∙ w.if-is_zero_at_once.false, c.from.ensures, c.mark_of.ensures) (refl, w.to_none.ensures)
+]

@@ -2,4 +2,4 @@
 use Rattle.accepting.proofs.reacted.Goals as goal
 
 pub returns : goal.returns
-returns c = rw (← c.reaction-r.ensures) c.react.ensures
+returns c = rw (← c.reaction.ensures) c.react.ensures

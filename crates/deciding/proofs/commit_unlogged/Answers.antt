@@ -3,4 +3,4 @@ use Rattle.endings.proofs.Laws.{going_gives}
 use Rattle.deciding.proofs.commit_unlogged.Goals as goal
 
 pub returns : goal.returns
-returns c = going_gives _ _ c.args.h c.committing-after.ensures _ c.commit_signals-signals.ensures
+returns c = going_gives _ _ c.args.h c.committing.ensures _ c.commit_signals.ensures

@@ -4,11 +4,8 @@ use mathlib.Core.Path.{ap}
 use Rattle.endings.proofs.Laws.{end_open, end_quiet}
 use Rattle.endings.proofs.end.Goals as goal
 
-pub use_more-requires : goal.use_more-requires
-use_more-requires c = omega (arith, ap (λ g. g.used) c.emptied-after.ensures, c.put_forget-size.ensures.2, c.requires.1)
+pub returns-then-is_open : goal.returns-then-is_open
+returns-then-is_open c = (end_open c.args.h c.requires.0 c.args.log.now c.is_open.ensures c.emptied-after.ensures _ c.if-is_open.true c.put_forget-size.ensures.0 c.put_forget-size.ensures.1 c.use_more.ensures, omega (arith, ap (λ g. g.used) c.use_more.ensures, ap (λ g. g.used) c.emptied-after.ensures, c.put_forget-size.ensures.2))
 
-pub returns-then-open : goal.returns-then-open
-returns-then-open c = (end_open c.args.h c.requires.0 c.args.log.now c.is_open-open.ensures c.emptied-after.ensures _ c.if-open.true c.put_forget-size.ensures.0 c.put_forget-size.ensures.1 c.use_more.ensures, omega (arith, ap (λ g. g.used) c.use_more.ensures, ap (λ g. g.used) c.emptied-after.ensures, c.put_forget-size.ensures.2))
-
-pub returns : goal.returns
-returns c = (end_quiet c.args.h c.requires.0 c.args.log.now c.is_open-open.ensures c.emptied-after.ensures c.if-open.false, omega (arith, ap (λ g. g.used) c.emptied-after.ensures))
+pub returns-else-is_open : goal.returns-else-is_open
+returns-else-is_open c = (end_quiet c.args.h c.requires.0 c.args.log.now c.is_open.ensures c.emptied-after.ensures c.if-is_open.false, omega (arith, ap (λ g. g.used) c.emptied-after.ensures))

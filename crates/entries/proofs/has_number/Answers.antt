@@ -1,19 +1,18 @@
--- The entries that are passed have other numbers, so that those that are left say what all say.
-use Prim.Native.Nat.{ℕ}
-use mathlib.Core.Path.{refl, ap}
-use Rattle.lists.proofs.Loops.{any_next, any_here, any_over}
+-- One of the numbers that are read is this.
+use native.Mathlib.Omega.{arith}
+use Rattle.std.proofs.Common.{rules, ◌≡◌}
+use borrow.Author.Tests.{tests}
+use mathlib.Core.Path.{refl, ◌∙◌}
+use Rattle.std.proofs.lemmas.Iterator.{YieldsList-from_range}
+use Rattle.std.proofs.lemmas.Iterator.Search.{any_from_yields_List}
+use Rattle.std.specs.List.{list_any, range_with_len}
 use lib.Dec.{eqb}
-use Rattle.entries.proofs.Rows.{entry_next, entries_over}
+use Rattle.log_reader.specs.Reading.{number_at}
+use Rattle.entries.proofs.Rows.{any_read}
 use Rattle.entries.proofs.has_number.Goals as goal
 
-pub loop-j-init : goal.loop-j-init
-loop-j-init c = record { same = refl }
-
-pub returns-then-same : goal.returns-then-same
-returns-then-same c = any_here _ c.loop-j.invariant (entry_next _ _ _ c.entries_count-n.ensures c.loop-j-test.true) (ap (λ (m : ℕ). eqb m c.args.number) c.number_at-other.ensures) c.if-same.true-raw
-
-pub loop-j-preserved : goal.loop-j-preserved
-loop-j-preserved c = any_next _ c.loop-j.invariant (entry_next _ _ _ c.entries_count-n.ensures c.loop-j-test.true) (ap (λ (m : ℕ). eqb m c.args.number) c.number_at-other.ensures) c.if-same.false-raw
-
 pub returns : goal.returns
-returns c = any_over _ c.loop-j.invariant (entries_over _ _ _ c.entries_count-n.ensures c.loop-j-test.false)
+returns c =
+    let e : c.any.result ≡ list_any (λ j. eqb (number_at c.args.log.now c.args.at j) c.args.number) (range_with_len 0 c.entries_count-count.result) =
+    any_from_yields_List (λ j. eqb (number_at c.args.log.now c.args.at j) c.args.number) _ _ c.any.result c.any.ensures.ran (YieldsList-from_range 0 _ c.entries_count-count.result refl (omega arith)) (λ x b q k. search (rules, tests)) in
+    e ∙ any_read (λ e. eqb e.number c.args.number) _ _ c.entries_count-count.ensures

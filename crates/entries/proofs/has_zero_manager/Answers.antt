@@ -1,17 +1,18 @@
--- The entries that are passed have managers that are not zero, so that those that are left say what all say.
-use mathlib.Core.Path.{refl}
-use Rattle.lists.proofs.Loops.{any_next, any_here, any_over}
-use Rattle.entries.proofs.Rows.{entry_next, entries_over}
+-- One of the managers that are read is zero.
+use native.Mathlib.Omega.{arith}
+use Rattle.std.proofs.Common.{rules, ◌≡◌}
+use borrow.Author.Tests.{tests}
+use mathlib.Core.Path.{refl, ◌∙◌}
+use Rattle.std.proofs.lemmas.Iterator.{YieldsList-from_range}
+use Rattle.std.proofs.lemmas.Iterator.Search.{any_from_yields_List}
+use Rattle.std.specs.List.{list_any, range_with_len}
+use Rattle.rules.specs.Identifiers.{is_zero}
+use Rattle.log_reader.specs.Reading.{manager_at}
+use Rattle.entries.proofs.Rows.{any_read}
 use Rattle.entries.proofs.has_zero_manager.Goals as goal
 
-pub loop-j-init : goal.loop-j-init
-loop-j-init c = record { same = refl }
-
-pub returns-then-zero : goal.returns-then-zero
-returns-then-zero c = any_here _ c.loop-j.invariant (entry_next _ _ _ c.entries_count-n.ensures c.loop-j-test.true) (rw c.manager_at-rm.ensures at c.is_zero-zero.ensures) c.if-zero.true
-
-pub loop-j-preserved : goal.loop-j-preserved
-loop-j-preserved c = any_next _ c.loop-j.invariant (entry_next _ _ _ c.entries_count-n.ensures c.loop-j-test.true) (rw c.manager_at-rm.ensures at c.is_zero-zero.ensures) c.if-zero.false
-
 pub returns : goal.returns
-returns c = any_over _ c.loop-j.invariant (entries_over _ _ _ c.entries_count-n.ensures c.loop-j-test.false)
+returns c =
+    let e : c.any.result ≡ list_any (λ j. is_zero (manager_at c.args.log.now c.args.at j)) (range_with_len 0 c.entries_count-count.result) =
+    any_from_yields_List (λ j. is_zero (manager_at c.args.log.now c.args.at j)) _ _ c.any.result c.any.ensures.ran (YieldsList-from_range 0 _ c.entries_count-count.result refl (omega arith)) (λ x b q k. search (rules, tests)) in
+    e ∙ any_read (λ e. is_zero e.rm) _ _ c.entries_count-count.ensures

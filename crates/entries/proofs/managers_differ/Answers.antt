@@ -11,12 +11,12 @@ loop-j-init c = record { same = refl }
 
 pub returns-then-again : goal.returns-then-again
 unfolding differ
-returns-then-again c = differ_stop c.loop-j.invariant (entry_next _ _ _ c.entries_count-n.ensures c.loop-j-test.true) c.manager_at-rm.ensures c.has_manager-again.ensures c.if-again.true
+returns-then-again c = differ_stop c.loop-j.invariant (entry_next _ _ _ c.entries_count-j-end.ensures c.loop-j-test.true) c.manager_at-rm.ensures c.has_manager-again.ensures c.if-again.true
 
 pub loop-j-preserved : goal.loop-j-preserved
 unfolding differ
-loop-j-preserved c = differ_next c.loop-j.invariant (entry_next _ _ _ c.entries_count-n.ensures c.loop-j-test.true) c.manager_at-rm.ensures c.has_manager-again.ensures c.if-again.false
+loop-j-preserved c = differ_next c.loop-j.invariant (entry_next _ _ _ c.entries_count-j-end.ensures c.loop-j-test.true) c.manager_at-rm.ensures c.has_manager-again.ensures c.if-again.false
 
 pub returns : goal.returns
 unfolding differ
-returns c = ahead_done c.loop-j.invariant (entries_over _ _ _ c.entries_count-n.ensures c.loop-j-test.false) refl
+returns c = ahead_done c.loop-j.invariant (entries_over _ _ _ c.entries_count-j-end.ensures c.loop-j-test.false) refl

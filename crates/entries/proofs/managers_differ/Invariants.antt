@@ -1,5 +1,4 @@
 -- No manager that is passed stands behind its place again, so that the entries that are left say what all say.
-use Prim.Native.Nat.{◌-◌}
 use Rattle.lists.specs.Lists.{differ}
 use Rattle.lists.proofs.Loops.{Ahead}
 use Rattle.rules.specs.Restart.{same_entry_manager}
@@ -8,6 +7,3 @@ use Rattle.entries.proofs.managers_differ.Given as goal
 
 abbrev pub invariant-loop-j : goal.invariant-loop-j
 invariant-loop-j l = Ahead (differ same_entry_manager) (entries_at l.log l.at) (differ same_entry_manager (entries_at l.log l.at)) l.j
-
-abbrev pub decreases-loop-j : goal.decreases-loop-j
-decreases-loop-j l = l.n - l.j

@@ -1,4 +1,4 @@
--- The transaction that is named is taken out, changed alone and put back.
+-- Refused by its checks, the memory is as it was; else the transaction that is named is taken out, changed alone and put back.
 use mathlib.Core.Path.{sym, ap}
 use Rattle.rules.specs.Table.{place_named}
 use Rattle.rules.specs.Events.{commit_of}
@@ -8,42 +8,29 @@ use Rattle.rules.specs.Checks.{commit_checks}
 use Rattle.refusals.proofs.Found.{state_found}
 use Rattle.holdings.proofs.Within.{passes_through}
 use Rattle.rows.specs.Memory.{table_in}
-use Rattle.entering.proofs.Done.{silent_does}
+use Rattle.entering.proofs.Done.{refused_does}
 use Rattle.events.proofs.Takes.{named_takes, takes_ready, takes_few, takes_does}
 use Rattle.events.proofs.commit.Goals as goal
 
-pub place_named-named-requires : goal.place_named-named-requires
-place_named-named-requires c = c.requires.0.long_heads
-
-pub transaction_at-x-requires : goal.transaction_at-x-requires
-transaction_at-x-requires c = c.requires.0.long_heads
+pub returns-in_err-commit : goal.returns-in_err-commit
+returns-in_err-commit c =
+    let tb = table_in c.args.heads.now c.args.rows.now c.args.capacity c.args.used in
+    refused_does c.args.heads.now c.args.rows.now c.args.capacity c.args.used (commit_checks tb c.args.id) (commit_of (place_named c.args.id tb) tb c.args.log.now) c.args.log.now _ _ c.from_residual.ensures.1
+    (state_found tb (checks.commit c.args.id) c.args.id c.in_err-commit.ensures c.place_named-named.ensures (ap (λ x. x.state) c.transaction_at-x.ensures))
 
 pub take_out-h-requires : goal.take_out-h-requires
-take_out-h-requires c =
-    let tb = table_in c.args.heads.now c.args.rows.now c.args.capacity c.args.used in
-    let q = state_found tb (checks.commit c.args.id) c.args.id c.commit-why.ensures c.place_named-named.ensures (ap (λ x. x.state) c.transaction_at-x.ensures) in
-    (c.requires.0.long_heads, c.requires.0.long_rows, (named_takes c.args.heads.now c.args.rows.now c.args.capacity c.args.used c.args.id _ c.requires.0 c.place_named-named.ensures q c.if-fine.true-raw).few)
+take_out-h-requires c = (named_takes c.args.heads.now c.args.rows.now c.args.capacity c.args.used c.told-heads c.args.id _ _ c.requires.0 c.place_named-named.ensures c.in_ok-commit.ensures).few
 
 pub commit-done-requires : goal.commit-done-requires
-commit-done-requires c =
-    let tb = table_in c.args.heads.now c.args.rows.now c.args.capacity c.args.used in
-    let q = state_found tb (checks.commit c.args.id) c.args.id c.commit-why.ensures c.place_named-named.ensures (ap (λ x. x.state) c.transaction_at-x.ensures) in
-    takes_ready c.args.heads.now c.args.rows.now c.args.capacity c.args.used (named_takes c.args.heads.now c.args.rows.now c.args.capacity c.args.used c.args.id _ c.requires.0 c.place_named-named.ensures q c.if-fine.true-raw) (c.take_out-h.ensures c.args.capacity)
+commit-done-requires c = takes_ready c.args.heads.now c.args.rows.now c.args.capacity c.args.used c.told-heads (named_takes c.args.heads.now c.args.rows.now c.args.capacity c.args.used c.told-heads c.args.id _ _ c.requires.0 c.place_named-named.ensures c.in_ok-commit.ensures) (c.take_out-h.ensures c.args.capacity)
 
 pub put_back-requires : goal.put_back-requires
-put_back-requires c =
-    let tb = table_in c.args.heads.now c.args.rows.now c.args.capacity c.args.used in
-    let q = state_found tb (checks.commit c.args.id) c.args.id c.commit-why.ensures c.place_named-named.ensures (ap (λ x. x.state) c.transaction_at-x.ensures) in
-    (c.requires.0.long_heads, c.requires.0.long_rows, takes_few c.args.heads.now c.args.rows.now c.args.capacity c.args.used (named_takes c.args.heads.now c.args.rows.now c.args.capacity c.args.used c.args.id _ c.requires.0 c.place_named-named.ensures q c.if-fine.true-raw) (c.take_out-h.ensures c.args.capacity) c.commit-done.result c.commit-done.ensures.place)
-
-pub returns-then-fine : goal.returns-then-fine
-returns-then-fine c =
-    let tb = table_in c.args.heads.now c.args.rows.now c.args.capacity c.args.used in
-    let q = state_found tb (checks.commit c.args.id) c.args.id c.commit-why.ensures c.place_named-named.ensures (ap (λ x. x.state) c.transaction_at-x.ensures) in
-    takes_does c.args.heads.now c.args.rows.now c.args.capacity c.args.used (named_takes c.args.heads.now c.args.rows.now c.args.capacity c.args.used c.args.id _ c.requires.0 c.place_named-named.ensures q c.if-fine.true-raw) (c.take_out-h.ensures c.args.capacity) (commit_checks tb c.args.id) (λ p t. commit_of p t c.args.log.now) c.args.log.now c.requires.0.long_heads (ap (λ p. commit_of p tb c.args.log.now) (sym c.place_named-named.ensures)) q c.if-fine.true-raw (λ there f. commit_through (passes_through tb _ there) _ c.args.log.now f) c.commit-done.ensures c.put_back.ensures
+put_back-requires c = takes_few c.args.heads.now c.args.rows.now c.args.capacity c.args.used c.told-heads (named_takes c.args.heads.now c.args.rows.now c.args.capacity c.args.used c.told-heads c.args.id _ _ c.requires.0 c.place_named-named.ensures c.in_ok-commit.ensures) (c.take_out-h.ensures c.args.capacity) c.commit-done.result c.commit-done.ensures.place
 
 pub returns : goal.returns
 returns c =
     let tb = table_in c.args.heads.now c.args.rows.now c.args.capacity c.args.used in
-    let q = state_found tb (checks.commit c.args.id) c.args.id c.commit-why.ensures c.place_named-named.ensures (ap (λ x. x.state) c.transaction_at-x.ensures) in
-    silent_does c.args.heads.now c.args.rows.now c.args.capacity c.args.used (commit_checks tb c.args.id) (commit_of (place_named c.args.id tb) tb c.args.log.now) c.args.log.now c.commit-why.result c.requires.0.long_heads c.requires.0.long_rows q c.if-fine.false-raw c.silent.ensures
+    takes_does c.args.heads.now c.args.rows.now c.args.capacity c.args.used c.told-heads (named_takes c.args.heads.now c.args.rows.now c.args.capacity c.args.used c.told-heads c.args.id _ _ c.requires.0 c.place_named-named.ensures c.in_ok-commit.ensures) (c.take_out-h.ensures c.args.capacity)
+    (commit_checks tb c.args.id) (λ p t. commit_of p t c.args.log.now) c.args.log.now (ap (λ p. commit_of p tb c.args.log.now) (sym c.place_named-named.ensures))
+    (state_found tb (checks.commit c.args.id) c.args.id c.in_ok-commit.ensures c.place_named-named.ensures (ap (λ x. x.state) c.transaction_at-x.ensures))
+    (λ there f. commit_through (passes_through tb _ there) _ c.args.log.now f) c.commit-done.ensures c.put_back.ensures

@@ -1,15 +1,17 @@
--- The definition joins the same tests in the same order.
+-- The branches ask what the definition's tests ask, in the same order.
+use native.Mathlib.Omega.{arith}
+use Rattle.std.proofs.lemmas.Bool.Decides.{nat_tests}
 use Rattle.rules.specs.Log.{size_of}
 use Rattle.first_bytes.proofs.size_of.Goals as goal
 
-pub returns-then-commit : goal.returns-then-commit
+pub returns-in-1 : goal.returns-in-1
 unfolding size_of
-returns-then-commit c = rw (← c.both-some.ensures, ← c.both-commit.ensures, c.if-commit.true)
+returns-in-1 c = grind (arith, nat_tests)
 
-pub returns-then-forget : goal.returns-then-forget
+pub returns-in-2 : goal.returns-in-2
 unfolding size_of
-returns-then-forget c = rw (← c.both-some.ensures, ← c.both-commit.ensures, c.if-commit.false, ← c.both-forget.ensures, c.if-forget.true)
+returns-in-2 c = grind (arith, nat_tests)
 
-pub returns-else-forget : goal.returns-else-forget
+pub returns-in_default : goal.returns-in_default
 unfolding size_of
-returns-else-forget c = rw (← c.both-some.ensures, ← c.both-commit.ensures, c.if-commit.false, ← c.both-forget.ensures, c.if-forget.false)
+returns-in_default c = grind (arith, nat_tests)

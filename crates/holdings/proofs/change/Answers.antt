@@ -1,16 +1,14 @@
--- Each turn changes the enlistment of one place if it is held, so that what is left to change gives the change of all.
-use Rattle.lists.proofs.Loops.{long, pass_start, pass_done}
-use Rattle.holdings.proofs.Passed.{part_held, pass_held, pass_other}
+-- Each turn puts what `on_held` makes of one enlistment: what the closure gives if it is held, and else itself.
+use mathlib.Core.Path.{◌∙◌}
+use borrow.Author.Tests.{eq-eqb, ne_eqb}
+use Rattle.lists.proofs.Loops.{long}
+use Rattle.rules.specs.Table.{on_held}
+use Rattle.holdings.proofs.Passed.{put_next, held_changes, other_stays}
 use Rattle.holdings.proofs.change.Goals as goal
+use Rattle.holdings.proofs.change.Goals.{then-e-h, else-e-h}
 
-pub loop-i-init : goal.loop-i-init
-loop-i-init c = pass_start part_held (search long)
-
-pub loop-i-preserved-then-mine : goal.loop-i-preserved-then-mine
-loop-i-preserved-then-mine c = pass_held _ _ _ c.loop-i.invariant c.loop-i-test.true c.if-mine.true-raw c.changed-f.ensures
-
-pub loop-i-preserved : goal.loop-i-preserved
-loop-i-preserved c = pass_other _ _ _ c.loop-i.invariant c.loop-i-test.true c.if-mine.false-raw
-
-pub returns : goal.returns
-returns c = pass_done part_held c.loop-i.invariant c.loop-i-test.false
+pub loop-e-preserved : goal.loop-e-preserved
+loop-e-preserved g c = λ f says. elim c.if-e-h.branch [
+  | then-e-h w ↦ w.e-items-is ∙ put_next (on_held c.args.h.place f) _ (search long) c.loop-e-test.true (c.loop-e.invariant f says) _ (held_changes c.args.h.place f (eq-eqb _ _ w.if-e-h.true) (says _ _ w.becomes.ensures))
+  | else-e-h w ↦ w.e-items-is ∙ put_next (on_held c.args.h.place f) _ (search long) c.loop-e-test.true (c.loop-e.invariant f says) _ (other_stays c.args.h.place f (ne_eqb _ _ w.if-e-h.false))
+]

@@ -1,11 +1,11 @@
--- Each turn changes the enlistment of one place if it is held, so that what is left to change gives the change of all.
-use Prim.Native.Nat.{◌-◌}
-use Rattle.passes.specs.Change.{change_of}
-use Rattle.holdings.proofs.Passed.{PassedHeld}
+-- What the first so many places hold is changed, if it is held; the others are as they were.
+use Rattle.std.proofs.Common.{◌≡◌, ◌++◌, take, drop, map}
+use Rattle.rules.specs.declared.Enlistment.{Enlistment}
+use Rattle.rules.specs.Table.{on_held}
+use Rattle.passes.specs.Computes.{Computes}
 use Rattle.holdings.proofs.change.Given as goal
 
-abbrev pub invariant-loop-i : goal.invariant-loop-i
-invariant-loop-i l = PassedHeld l.p (change_of l.change) l.initial.u l.u l.i
-
-abbrev pub decreases-loop-i : goal.decreases-loop-i
-decreases-loop-i l = 16 - l.i
+abbrev pub invariant-loop-e : goal.invariant-loop-e
+invariant-loop-e g l =
+    (f : Enlistment → Enlistment) → Computes (goal.F-post g l.becomes) f
+    → l.e-items ≡ map (on_held l.h.place f) (take l.e-index l.initial.e-items) ++ drop l.e-index l.initial.e-items

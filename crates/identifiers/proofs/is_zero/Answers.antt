@@ -1,11 +1,7 @@
--- Two words are zero if and only if their bytes are.
-use mathlib.Core.Path.{sym, ◌∙◌}
-use borrow.Author.Rules.{rules}
-use Rattle.identifiers.proofs.Laws.{two_words}
+-- Each byte is compared with a zero, as in the definition.
+use Rattle.std.proofs.Common.{◌≡◌, ◌∙◌, length, rules}
+use Rattle.rules.proofs.Identifiers.{pointwise_zero}
 use Rattle.identifiers.proofs.is_zero.Goals as goal
 
-pub returns-then-empty : goal.returns-then-empty
-returns-then-empty c = sym (two_words c.args.a (search rules) ∙ rw (← c.low_word-low.ensures, ← c.high_word-high.ensures, c.if-empty.true-raw))
-
 pub returns : goal.returns
-returns c = sym (two_words c.args.a (search rules) ∙ rw (← c.low_word-low.ensures, c.if-empty.false-raw))
+returns c = let long : length c.args.a ≡ 16 = search rules in c.eq.ensures ∙ rw long at (pointwise_zero c.args.a)

@@ -1,22 +1,7 @@
--- The two go along together: what same_bytes says of what is left, it says of the whole.
-use mathlib.Core.Path.{refl}
-use borrow.Author.Rules.{rules}
-use Rattle.lists.proofs.Loops.{pair_start, pair_next, pair_stop, pair_done}
-use Rattle.rules.specs.Identifiers.{same_bytes}
+-- The library's test of two arrays, byte by byte, is the definition's.
+use Rattle.std.proofs.Common.{◌∙◌}
+use Rattle.rules.proofs.Identifiers.{pointwise_same}
 use Rattle.identifiers.proofs.same.Goals as goal
 
-pub loop-i-init : goal.loop-i-init
-unfolding same_bytes
-loop-i-init c = pair_start (search rules) (search rules)
-
-pub loop-i-preserved : goal.loop-i-preserved
-unfolding same_bytes
-loop-i-preserved c = pair_next 0 c.loop-i.invariant c.loop-i-test.true (λ xs ys. rw c.if-equal.true-raw)
-
-pub returns-else-equal : goal.returns-else-equal
-unfolding same_bytes
-returns-else-equal c = pair_stop 0 c.loop-i.invariant c.loop-i-test.true (λ xs ys. rw c.if-equal.false-raw)
-
 pub returns : goal.returns
-unfolding same_bytes
-returns c = pair_done c.loop-i.invariant c.loop-i-test.false refl
+returns c = c.eq.ensures ∙ pointwise_same c.args.a c.args.b

@@ -1,27 +1,16 @@
 -- The first that has the number is the first that is found.
-use mathlib.Core.Path.{sym, ◌∙◌}
-use mathlib.Core.List.{[]}
-use lib.ListN.{length-map}
-use borrow.Author.Tests.{eq-eqb, ne_eqb}
-use Rattle.lists.specs.Lists.{first_or}
-use Rattle.lists.proofs.Loops.{look_start, look_done}
-use Rattle.rules.specs.Table.{no_enlistment, is_numbered}
+use Rattle.std.proofs.Common.{rules}
+use borrow.Author.Tests.{tests}
+use Rattle.std.proofs.lemmas.Iterator.{YieldsList-from_slice}
+use Rattle.std.proofs.lemmas.Iterator.Search.{find_from_yields_List}
+use Rattle.lists.proofs.Chains.{first_at_find}
+use Rattle.rules.specs.Table.{is_numbered, no_enlistment}
 use Rattle.rows.specs.Memory.{enlistment_in}
-use Rattle.rows.proofs.Mapped.{first_miss, first_hit}
 use Rattle.lent_places.proofs.numbered.Goals as goal
 
-pub loop-i-init : goal.loop-i-init
-unfolding first_or enlistment_in
-loop-i-init c = look_start (length-map c.args.rows.now enlistment_in ∙ c.requires)
-
-pub returns-then-m-n : goal.returns-then-m-n
-unfolding first_or enlistment_in
-returns-then-m-n c = first_hit (is_numbered c.args.n) enlistment_in c.args.rows.now [] no_enlistment c.loop-i.invariant c.loop-i-test.true (eq-eqb _ _ (sym c.number_in-m.ensures ∙ c.if-m-n.true)) c.enlistment_in.ensures
-
-pub loop-i-preserved : goal.loop-i-preserved
-unfolding first_or enlistment_in
-loop-i-preserved c = first_miss (is_numbered c.args.n) enlistment_in c.args.rows.now [] no_enlistment c.loop-i.invariant c.loop-i-test.true (ne_eqb _ _ (λ e. c.if-m-n.false (c.number_in-m.ensures ∙ e)))
-
 pub returns : goal.returns
-unfolding first_or enlistment_in
-returns c = look_done c.loop-i.invariant c.loop-i-test.false (sym c.no_enlistment.ensures)
+unfolding enlistment_in
+returns c = first_at_find (is_numbered c.args.n) enlistment_in no_enlistment c.args.rows.now
+    (find_from_yields_List _ _ _ _ c.find-found.ensures.ran
+    (YieldsList-from_slice c.args.rows.now cc) (λ x b q k. search (rules, tests)))
+    (search rules)

@@ -1,24 +1,16 @@
--- The places in front of the one that is looked at have failed the test, so that the first that passes it is the definition's.
-use mathlib.Core.Path.{refl, ◌∙◌}
-use lib.ListN.{length-map}
-use Rattle.lists.proofs.Loops.{look_start, seek_miss, seek_hit, seek_done}
+-- The holder that is looked at stands in the row at byte 20.
+use Rattle.std.proofs.Common.{rules}
+use borrow.Author.Tests.{tests}
+use Rattle.std.proofs.lemmas.Iterator.{YieldsList-from_slice}
+use Rattle.std.proofs.lemmas.Iterator.Search.{position_from_yields_List}
+use Rattle.lists.proofs.Chains.{place_at_position}
 use Rattle.rules.specs.Table.{is_vacant}
 use Rattle.rows.specs.Memory.{enlistment_in}
-use Rattle.rows.proofs.Mapped.{seen}
 use Rattle.lent_places.proofs.place_vacant.Goals as goal
-
-pub loop-i-init : goal.loop-i-init
-unfolding enlistment_in
-loop-i-init c = look_start (length-map c.args.rows.now enlistment_in ∙ c.requires)
-
-pub returns-then-hit : goal.returns-then-hit
-unfolding enlistment_in
-returns-then-hit c = seek_hit _ _ c.loop-i.invariant c.loop-i-test.true (seen is_vacant enlistment_in c.args.rows.now c.loop-i.i _ (refl)) c.if-hit.true-raw
-
-pub loop-i-preserved : goal.loop-i-preserved
-unfolding enlistment_in
-loop-i-preserved c = seek_miss _ _ c.loop-i.invariant c.loop-i-test.true (seen is_vacant enlistment_in c.args.rows.now c.loop-i.i _ (refl)) c.if-hit.false-raw
 
 pub returns : goal.returns
 unfolding enlistment_in
-returns c = seek_done _ c.loop-i.invariant c.loop-i-test.false
+returns c = place_at_position is_vacant enlistment_in c.args.rows.now
+    (position_from_yields_List _ _ _ _ c.position.ensures.ran
+    (YieldsList-from_slice c.args.rows.now cc) (λ x b q k. search (rules, tests)))
+    c.place_at.ensures

@@ -16,9 +16,16 @@ returns-then-p-eq0 c = rw (at_is, eq-eqb _ _ c.if-p-eq0.true) c.no_transaction.e
 pub returns-then-k-lt-TRANSACTIONS : goal.returns-then-k-lt-TRANSACTIONS
 returns-then-k-lt-TRANSACTIONS c =
     let heads = c.args.heads.now in let k = c.args.p - 1 in
-    rw (at_is, ne_eqb _ _ c.if-p-eq0.false) (stands transaction_in heads k [] no_transaction (omega (arith, c.requires, c.if-k-lt-TRANSACTIONS.true)) c.transaction_in.ensures)
+    rw (at_is, ne_eqb _ _ c.if-p-eq0.false)
+    (stands transaction_in heads k [] no_transaction (omega (arith, c.told-heads, c.if-k-lt-TRANSACTIONS.true))
+    c.transaction_in.ensures)
 
 pub returns : goal.returns
 returns c =
     let heads = c.args.heads.now in let k = c.args.p - 1 in
-    rw (at_is, ne_eqb _ _ c.if-p-eq0.false, get_or-eq_default (map transaction_in heads) no_transaction {n = k} (omega (arith, length-map heads transaction_in, c.requires, c.if-k-lt-TRANSACTIONS.false))) c.no_transaction-2.ensures
+    rw (
+      at_is,
+      ne_eqb _ _ c.if-p-eq0.false,
+      get_or-eq_default (map transaction_in heads) no_transaction {n = k}
+          (omega (arith, length-map heads transaction_in, c.told-heads, c.if-k-lt-TRANSACTIONS.false)),
+    ) c.no_transaction-2.ensures

@@ -1,5 +1,4 @@
 -- The places are looked at in their order, and those that are held are kept.
-use Prim.Native.Nat.{◌-◌}
 use mathlib.Core.List.{map}
 use Rattle.rows.specs.Memory.{enlistment_in}
 use Rattle.lent_tables.proofs.Taking.{Taking}
@@ -7,6 +6,3 @@ use Rattle.lent_tables.proofs.take_out.Given as goal
 
 abbrev pub invariant-loop-i : goal.invariant-loop-i
 invariant-loop-i l = Taking l.p (map enlistment_in l.rows) l.initial.h l.h l.k l.i
-
-abbrev pub decreases-loop-i : goal.decreases-loop-i
-decreases-loop-i l = 128 - l.i

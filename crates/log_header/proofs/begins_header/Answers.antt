@@ -1,22 +1,19 @@
--- Log and header go along together: the bytes that are passed are equal, so that what is left of both says what the whole does.
-use mathlib.Core.Path.{refl}
-use Rattle.lists.proofs.Loops.{pair_done}
-use Rattle.rules.specs.Identifiers.{same_bytes}
-use Rattle.log_header.proofs.Headers.{compare_start, compare_next, compare_stop}
+-- Log and header have the same byte at each place below n.
+use native.Mathlib.Omega.{arith}
+use Rattle.std.proofs.Common.{rules, ◌≡◌}
+use borrow.Author.Tests.{tests}
+use mathlib.Core.Path.{refl, ◌∙◌}
+use Rattle.std.proofs.lemmas.Iterator.{YieldsList-from_range}
+use Rattle.std.proofs.lemmas.Iterator.Search.{all_from_yields_List}
+use lib.Dec.{eqb}
+use lib.ListN.{get_or}
+use Rattle.std.specs.List.{list_all, range_with_len}
+use Rattle.rules.specs.Log.{header}
+use Rattle.log_header.proofs.Headers.{bytes_same}
 use Rattle.log_header.proofs.begins_header.Goals as goal
 
-pub loop-i-init : goal.loop-i-init
-unfolding same_bytes
-loop-i-init c = compare_start _ _
-
-pub loop-i-preserved : goal.loop-i-preserved
-unfolding same_bytes
-loop-i-preserved c = compare_next _ _ c.loop-i.invariant c.loop-i-test.true c.byte-b.ensures c.header_byte-h.ensures c.if-equal.true-raw
-
-pub returns-else-equal : goal.returns-else-equal
-unfolding same_bytes
-returns-else-equal c = compare_stop _ _ c.loop-i.invariant c.loop-i-test.true c.byte-b.ensures c.header_byte-h.ensures c.if-equal.false-raw
-
 pub returns : goal.returns
-unfolding same_bytes
-returns c = pair_done c.loop-i.invariant c.loop-i-test.false refl
+returns c =
+    let e : c.all.result ≡ list_all (λ i. eqb (get_or c.args.log.now i 0) (get_or header i 0)) (range_with_len 0 c.args.n) =
+    all_from_yields_List (λ i. eqb (get_or c.args.log.now i 0) (get_or header i 0)) _ _ c.all.result c.all.ensures.ran (YieldsList-from_range 0 _ c.args.n refl (omega arith)) (λ x b q k. search (rules, tests)) in
+    e ∙ bytes_same _ _ _ _

@@ -12,7 +12,7 @@ loop-i-init c = store_start refl
 
 pub loop-i-preserved : goal.loop-i-preserved
 unfolding written
-loop-i-preserved c = store_again c.loop-i.invariant c.loop-i-test.true (c.put.ensures ∙ ap₂ (λ k b. set c.loop-i.log k b) (omega arith) c.header_byte-h.ensures)
+loop-i-preserved c = store_again c.loop-i.invariant c.loop-i-test.true (c.put.ensures ∙ ap₂ (λ k b. set c.loop-i.log k b) (omega arith) c.header_byte.ensures)
 
 pub shape_of-log : goal.shape_of-log
 unfolding written

@@ -1,5 +1,4 @@
 -- Each turn stores one byte, so that the bytes that are left, stored behind it, give the whole.
-use Prim.Native.Nat.{◌-◌}
 use Rattle.lists.proofs.Stores.{Stored}
 use Rattle.rules.specs.Sizes.{header_size}
 use Rattle.rules.specs.Log.{header}
@@ -7,6 +6,3 @@ use Rattle.log_header.proofs.write_header.Given as goal
 
 abbrev pub invariant-loop-i : goal.invariant-loop-i
 invariant-loop-i l = Stored header_size header l.initial.log 0 l.log l.i
-
-abbrev pub decreases-loop-i : goal.decreases-loop-i
-decreases-loop-i l = header_size - l.i

@@ -1,14 +1,10 @@
--- Each turn puts one byte, so that the bytes that are still to be put, behind those that are, are the whole.
-use borrow.Author.Rules.{rules}
-use Rattle.lists.proofs.Loops.{rewrite_done}
-use Rattle.log_reader.proofs.Places.{put_start, put_again, put_none}
+-- Each byte stands at its place behind the first.
+use native.Mathlib.Omega.{arith}
+use Rattle.std.proofs.Common.{ℕ, ◌<◌, ◌≡◌, ◌+◌, rules, get_or}
+use Rattle.log_reader.proofs.Places.{bytes_there}
 use Rattle.log_reader.proofs.identifier_from.Goals as goal
 
-pub loop-i-init : goal.loop-i-init
-loop-i-init c = put_start _ _ _ (search rules)
-
-pub loop-i-preserved : goal.loop-i-preserved
-loop-i-preserved c = put_again _ _ _ c.loop-i.invariant c.loop-i-test.true c.byte-b.ensures
-
 pub returns : goal.returns
-returns c = rewrite_done c.loop-i.invariant c.loop-i-test.false (put_none _ _)
+returns c =
+    let each : (i : ℕ) → i < 16 → get_or c.from_fn.result i 0 ≡ get_or c.args.log.now (c.args.at + (c.args.from + i)) 0 = λ i h. let k = c.from_fn.ensures.items.at i 0 h in search rules in
+    bytes_there _ _ _ _ c.from_fn.ensures.items.long (λ i h. let q : c.args.at + (c.args.from + i) ≡ c.args.at + c.args.from + i = omega arith in rw q at (each i h))

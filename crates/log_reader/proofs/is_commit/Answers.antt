@@ -5,4 +5,4 @@ use Rattle.log_reader.proofs.is_commit.Goals as goal
 
 pub returns : goal.returns
 unfolding is_commit_at
-returns c = simp (c.byte-b.ensures, add-zero)
+returns c = simp (c.byte.ensures, add-zero)

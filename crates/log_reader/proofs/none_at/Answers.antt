@@ -1,16 +1,17 @@
 -- What is left of the stored bytes decides how many are read, here as in the definition.
-use native.Mathlib.Nat.{add-zero}
+use native.Mathlib.Omega.{arith}
+use Rattle.std.proofs.lemmas.Bool.Decides.{nat_tests}
 use Rattle.log_reader.specs.Reading.{none_at}
 use Rattle.log_reader.proofs.none_at.Goals as goal
 
-pub returns-then-over : goal.returns-then-over
+pub returns-in-0 : goal.returns-in-0
 unfolding none_at
-returns-then-over c = rw (← c.left-left.ensures, c.if-over.true-raw)
+returns-in-0 c = grind (arith, nat_tests)
 
-pub returns-then-single : goal.returns-then-single
+pub returns-in-1 : goal.returns-in-1
 unfolding none_at
-returns-then-single c = rw (← c.left-left.ensures, c.if-over.false-raw, c.if-single.true-raw) (rw (c.byte-b.ensures, add-zero c.args.at) at c.begins_none.ensures)
+returns-in-1 c = grind (arith, nat_tests)
 
-pub returns : goal.returns
+pub returns-in_default : goal.returns-in_default
 unfolding none_at
-returns c = rw (← c.left-left.ensures, c.if-over.false-raw, c.if-single.false-raw, ← c.size_at-size.ensures)
+returns-in_default c = grind (arith, nat_tests)

@@ -1,13 +1,7 @@
--- What is left to change, place by place, gives the change of all: each turn puts what the definition makes of one enlistment.
-use Prim.Native.Nat.{◌-◌}
-use Rattle.lists.proofs.Loops.{Passed}
-use Rattle.rules.specs.declared.Table.{Table}
-use Rattle.rules.specs.Table.{with_enlistments}
+-- The places passed hold what the definition makes of each, and the others what they held.
+use Rattle.std.proofs.Common.{◌≡◌, ◌++◌, take, drop, map}
 use Rattle.rules.specs.Events.{done_for}
 use Rattle.managers.proofs.all_done_for.Given as goal
 
-abbrev pub invariant-loop-i : goal.invariant-loop-i
-invariant-loop-i l = Passed (λ (t : Table). t.enlistments) with_enlistments 128 (done_for l.rm) l.initial.u l.u l.i
-
-abbrev pub decreases-loop-i : goal.decreases-loop-i
-decreases-loop-i l = 128 - l.i
+abbrev pub invariant-loop-e : goal.invariant-loop-e
+invariant-loop-e l = l.e-items ≡ map (done_for l.rm) (take l.e-index l.initial.e-items) ++ drop l.e-index l.initial.e-items

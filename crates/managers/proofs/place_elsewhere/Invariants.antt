@@ -1,5 +1,4 @@
 -- The places are tested in their order: as long as none was met that passes, the first place is among those that are left.
-use Prim.Native.Nat.{◌-◌}
 use Rattle.lists.proofs.Loops.{Sought}
 use mathlib.Core.Bool.{not, ◌&&◌}
 use Rattle.rules.specs.EnlistmentState.{failed_to_notify}
@@ -8,7 +7,4 @@ use Rattle.rules.specs.Events.{is_undone}
 use Rattle.managers.proofs.place_elsewhere.Given as goal
 
 abbrev pub invariant-loop-i : goal.invariant-loop-i
-invariant-loop-i l = Sought (λ e. is_undone l.rm e && not (is_in failed_to_notify e)) 128 l.table.enlistments l.i
-
-abbrev pub decreases-loop-i : goal.decreases-loop-i
-decreases-loop-i l = 128 - l.i
+invariant-loop-i l = Sought (λ e. is_undone l.rm e && not (is_in failed_to_notify e)) 128 l.e-items l.i

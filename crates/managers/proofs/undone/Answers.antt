@@ -7,18 +7,18 @@ use Rattle.passes.proofs.Laws.{nowhere}
 use Rattle.holdings.specs.Holdings.{alone}
 use Rattle.managers.proofs.undone.Goals as goal
 
-pub loop-i-init : goal.loop-i-init
-unfolding alone held first_or
-loop-i-init c = look_start (search long)
+pub loop-e-init : goal.loop-e-init
+unfolding first_or
+loop-e-init c = look_start (search long)
 
-pub returns-then-hit : goal.returns-then-hit
+pub returns-then-is_undone_held : goal.returns-then-is_undone_held
 unfolding alone held first_or
-returns-then-hit c = rw first_filter (look_stop nowhere c.loop-i.invariant c.loop-i-test.true (λ xs. rw (sym c.is_undone_held-hit.ensures ∙ c.if-hit.true)))
+returns-then-is_undone_held c = rw first_filter (look_stop nowhere c.loop-e.invariant c.loop-e-test.true (λ xs. rw (sym c.is_undone_held.ensures ∙ c.if-is_undone_held.true)))
 
-pub loop-i-preserved : goal.loop-i-preserved
-unfolding alone held first_or
-loop-i-preserved c = look_next nowhere c.loop-i.invariant c.loop-i-test.true (λ xs. rw (sym c.is_undone_held-hit.ensures ∙ c.if-hit.false))
+pub loop-e-preserved : goal.loop-e-preserved
+unfolding first_or
+loop-e-preserved c = look_next nowhere c.loop-e.invariant c.loop-e-test.true (λ xs. rw (sym c.is_undone_held.ensures ∙ c.if-is_undone_held.false))
 
 pub returns : goal.returns
 unfolding alone held first_or
-returns c = rw (c.no_enlistment.ensures, first_filter) (look_done c.loop-i.invariant c.loop-i-test.false refl)
+returns c = rw (c.no_enlistment.ensures, first_filter) (look_done c.loop-e.invariant c.loop-e-test.false refl)

@@ -1,17 +1,9 @@
--- What is left of the identifier, stored behind what was stored, gives the whole of it at its place.
-use mathlib.Core.Path.{refl}
-use borrow.Author.Rules.{rules}
-use Rattle.lists.proofs.Stores.{store_start, store_again, store_done}
+-- The sixteen bytes are copied to their place, which is to store them one behind the other.
+use Rattle.std.proofs.Common.{◌≡◌, length, rules}
+use Rattle.lists.proofs.Copies.{copied}
 use Rattle.message_fields.proofs.put_identifier.Goals as goal
 
-pub loop-i-init : goal.loop-i-init
-loop-i-init c = store_start (search rules)
-
-pub loop-i-preserved : goal.loop-i-preserved
-loop-i-preserved c = store_again c.loop-i.invariant c.loop-i-test.true refl
-
-pub shape_of-memory : goal.shape_of-memory
-shape_of-memory c = c.loop-i.invariant.size
-
 pub returns : goal.returns
-returns c = (store_done c.loop-i.invariant c.loop-i-test.false, c.loop-i.invariant.long)
+returns c =
+    let long : length c.args.id ≡ 16 = search rules in
+    (rw c.copy_from_slice.ensures.after (copied c.args.memory.now c.args.id c.args.start 16 c.requires long), long)

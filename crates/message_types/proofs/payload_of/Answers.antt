@@ -1,19 +1,16 @@
--- The table has the definition's types in their order, so that what is left of it decides as the whole does, and the first row that fits is the definition's.
-use Rattle.message_types.proofs.Types.{table, look_up_start, look_up_next, look_up_here, look_up_end}
+-- `find` gives the first row that fits, and the table has the definition's rows.
+use Rattle.std.proofs.Common.{◌≡◌, rules, eqb}
+use borrow.Author.Tests.{tests}
+use Rattle.std.specs.List.{find}
+use Rattle.std.specs.Option.{option_map}
+use Rattle.std.proofs.lemmas.Iterator.{YieldsList-from_slice}
+use Rattle.std.proofs.lemmas.Iterator.Search.{find_from_yields_List}
+use Rattle.message_types.proofs.Rows.{Row, table, found, is_found}
 use Rattle.message_types.proofs.payload_of.Goals as goal
 
-pub loop-i-init : goal.loop-i-init
-unfolding table
-loop-i-init c = look_up_start
-
-pub returns-then-same : goal.returns-then-same
-unfolding table
-returns-then-same c = look_up_here _ c.loop-i.invariant c.loop-i-test.true c.if-same.true-raw
-
-pub loop-i-preserved : goal.loop-i-preserved
-unfolding table
-loop-i-preserved c = look_up_next _ c.loop-i.invariant c.loop-i-test.true c.if-same.false-raw
-
 pub returns : goal.returns
-unfolding table
-returns c = look_up_end c.loop-i.invariant c.loop-i-test.false
+returns c =
+    let first : option_map (λ x. x.now) c.find.result ≡ find (λ (r : Row). eqb r.kind c.args.kind) table =
+    find_from_yields_List (λ (r : Row). eqb r.kind c.args.kind) _ _ c.find.result c.find.ensures.ran (YieldsList-from_slice table cc) (λ x b q k. search (rules, tests)) in
+    let e : c.map.result ≡ found c.args.kind = search (rules, first) in
+    rw e (is_found c.args.kind)

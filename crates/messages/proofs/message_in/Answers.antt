@@ -39,21 +39,21 @@ field_at-requires-3 c = let h = header _ c.requires in omega arith
 pub identifier_where-requires : goal.identifier_where-requires
 unfolding message_in
 identifier_where-requires c =
-    λ e. let h = whole _ 16 c.requires c.field_at-kind.ensures c.payload_of-payload.ensures.1 e in
+    λ e. let h = whole _ 16 c.requires c.field_at-kind.ensures (c.unwrap_or-payload.ensures ∙ c.payload_of.ensures.1) e in
     omega arith
 
 pub identifier_where-requires-2 : goal.identifier_where-requires-2
 unfolding message_in
 identifier_where-requires-2 c =
-    λ e. let h = whole _ 32 c.requires c.field_at-kind.ensures c.payload_of-payload.ensures.1 e in
+    λ e. let h = whole _ 32 c.requires c.field_at-kind.ensures (c.unwrap_or-payload.ensures ∙ c.payload_of.ensures.1) e in
     omega arith
 
 pub identifier_where-requires-3 : goal.identifier_where-requires-3
 unfolding message_in
 identifier_where-requires-3 c =
-    λ e. let h = whole _ 32 c.requires c.field_at-kind.ensures c.payload_of-payload.ensures.1 e in
+    λ e. let h = whole _ 32 c.requires c.field_at-kind.ensures (c.unwrap_or-payload.ensures ∙ c.payload_of.ensures.1) e in
     omega arith
 
 pub returns : goal.returns
 unfolding message_in
-returns c = rw (c.identifier_where-3.ensures, c.identifier_where-2.ensures, c.identifier_where.ensures, c.field_at-3.ensures, c.field_at-2.ensures, c.field_at.ensures, c.payload_of-payload.ensures.1, c.field_at-kind.ensures)
+returns c = rw (c.identifier_where-3.ensures, c.identifier_where-2.ensures, c.identifier_where.ensures, c.field_at-3.ensures, c.field_at-2.ensures, c.field_at.ensures, c.unwrap_or-payload.ensures, c.payload_of.ensures.1, c.field_at-kind.ensures)

@@ -1,16 +1,15 @@
 -- The test decides between the message and the refusal, as the definition does.
-use mathlib.Core.Path.{sym, ◌∙◌}
+use Rattle.std.proofs.Common.{sym, ◌∙◌}
 use Rattle.rules.specs.Messages.{read_of}
 use Rattle.messages.proofs.read_message.Goals as goal
 
 pub message_in-requires : goal.message_in-requires
-unfolding read_of
-message_in-requires c = sym c.is_message-good.ensures ∙ c.if-good.true
+message_in-requires c = sym c.is_message.ensures ∙ c.if-not-is_message.false
 
-pub returns-then-good : goal.returns-then-good
+pub returns-then-not-is_message : goal.returns-then-not-is_message
 unfolding read_of
-returns-then-good c = rw (sym c.is_message-good.ensures ∙ c.if-good.true, c.message_in.ensures)
+returns-then-not-is_message c = rw (sym c.is_message.ensures ∙ c.if-not-is_message.true)
 
-pub returns-else-good : goal.returns-else-good
+pub returns : goal.returns
 unfolding read_of
-returns-else-good c = rw (sym c.is_message-good.ensures ∙ c.if-good.false, c.no_message.ensures)
+returns c = rw (sym c.is_message.ensures ∙ c.if-not-is_message.false, c.message_in.ensures)

@@ -3,6 +3,7 @@ use Prim.Native.Nat.{ℕ, ◌+◌, ◌≤◌}
 use mathlib.Core.Path.{◌≡◌, refl, sym, ◌∙◌, ap}
 use mathlib.Core.Bool.{Bool, true, false, ◌&&◌}
 use mathlib.Core.List.{List, ◌++◌}
+use Rattle.std.proofs.Common.{Ok, Err}
 use native.Mathlib.Omega.{arith}
 use borrow.Author.Tests.{leb-true}
 use lib.Dec.{leb}
@@ -10,7 +11,8 @@ use lib.ListN.{length, drop}
 use lib.Seq.{sets, sets-eq}
 use Rattle.lists.proofs.Tests.{true_and}
 use Rattle.rules.specs.declared.Message.{Message}
-use Rattle.rules.specs.Messages.{payload_of, is_writable, payload_bytes, message_bytes, fits, write_of}
+use Rattle.rules.specs.declared.Refusal.TheVariants as refused
+use Rattle.rules.specs.Messages.{payload_of, is_writable, payload_bytes, message_bytes, fits, write_of, written_answer}
 use Rattle.messages.specs.Promises.{IsWriting, header_bytes}
 use Rattle.messages.proofs.write_message.Goals as goal
 
@@ -30,26 +32,26 @@ module _ (m : Message) (l : List ℕ) {n : ℕ} (p : n ≡ payload_of m.kind) {g
       b ∙ rw a (sets-eq bs l 0 (omega arith) ∙ ap (λ k. bs ++ drop k l) long)
 
   written : {l1 l2 : List ℕ} → good ≡ true → l1 ≡ sets l 0 (header_bytes m n) → l2 ≡ sets l1 24 (payload_bytes m) → length (payload_bytes m) ≡ n
-      → IsWriting m l (record { refusal = 0; length = 24 + n }) l2
+      → IsWriting m l (written_answer (Ok (24 + n))) l2
   unfolding write_of message_bytes
   written e a b h = rw (sym decides ∙ e) (rw p, stored e a b h ∙ rw p)
 
-  refused : good ≡ false → IsWriting m l (record { refusal = 14; length = 0 }) l
+  unwritten : good ≡ false → IsWriting m l (written_answer (Err refused.BadMessage)) l
   unfolding write_of
-  refused e = rw (sym decides ∙ e) (refl, refl)
+  unwritten e = rw (sym decides ∙ e) (refl, refl)
 
 pub put_header-requires : goal.put_header-requires
 put_header-requires c =
-    let h = has_room c.args.message c.args.memory.now c.payload_of-payload.ensures.1 c.fits-good.ensures c.if-good.true in
+    let h = has_room c.args.message c.args.memory.now (c.unwrap_or-payload.ensures ∙ c.payload_of.ensures.1) c.fits.ensures c.if-not-fits.false in
     omega arith
 
 pub put_payload-requires : goal.put_payload-requires
 put_payload-requires c =
-    let r = has_room c.args.message c.args.memory.now c.payload_of-payload.ensures.1 c.fits-good.ensures c.if-good.true in
-    (c.payload_of-payload.ensures.1, omega (arith, c.put_header.auto.memory))
+    let r = has_room c.args.message c.args.memory.now (c.unwrap_or-payload.ensures ∙ c.payload_of.ensures.1) c.fits.ensures c.if-not-fits.false in
+    ((c.unwrap_or-payload.ensures ∙ c.payload_of.ensures.1), omega (arith, c.put_header.auto.memory))
 
-pub returns-then-good : goal.returns-then-good
-returns-then-good c = written c.args.message c.args.memory.now c.payload_of-payload.ensures.1 c.fits-good.ensures c.if-good.true c.put_header.ensures c.put_payload.ensures.0 c.put_payload.ensures.1
+pub returns : goal.returns
+returns c = written c.args.message c.args.memory.now (c.unwrap_or-payload.ensures ∙ c.payload_of.ensures.1) c.fits.ensures c.if-not-fits.false c.put_header.ensures c.put_payload.ensures.0 c.put_payload.ensures.1
 
-pub returns-else-good : goal.returns-else-good
-returns-else-good c = refused c.args.message c.args.memory.now c.payload_of-payload.ensures.1 c.fits-good.ensures c.if-good.false
+pub returns-then-not-fits : goal.returns-then-not-fits
+returns-then-not-fits c = unwritten c.args.message c.args.memory.now (c.unwrap_or-payload.ensures ∙ c.payload_of.ensures.1) c.fits.ensures c.if-not-fits.true

@@ -4,11 +4,8 @@ use borrow.Author.Rules.{rules}
 use Rattle.open_records.proofs.Rows.{summed_next, summed_done, open_next, opens_over}
 use Rattle.open_records.proofs.entries_open.Goals as goal
 
-pub loop-i-init : goal.loop-i-init
-loop-i-init c = record { within = omega arith; few = omega arith; ahead = record { same = omega arith } }
-
-pub loop-i-preserved : goal.loop-i-preserved
-loop-i-preserved c = summed_next _ _ c.loop-i.invariant (omega arith) (open_next _ _ c.count_of-n.ensures.0 _ c.loop-i-test.true) c.entries_count-more.ensures (search rules)
+pub loop-at-preserved : goal.loop-at-preserved
+loop-at-preserved c = summed_next _ _ c.loop-at.invariant (omega arith) (open_next c.args.records _ c.starts-at-items.ensures.0 _ c.loop-at-test.true) c.entries_count.ensures (search rules)
 
 pub returns : goal.returns
-returns c = summed_done c.loop-i.invariant (opens_over _ _ c.count_of-n.ensures.0 _ c.loop-i-test.false)
+returns c = summed_done c.loop-at.invariant (opens_over c.args.records _ c.starts-at-items.ensures.0 _ c.loop-at-test.false)

@@ -1,16 +1,19 @@
--- An entry of all open records is an entry of one of them, and those that are passed don't have the number.
-use Rattle.lists.proofs.Loops.{any_next, any_here, any_over}
-use Rattle.open_records.proofs.Rows.{open_next, opens_over, any_entries}
+-- An entry of all open records is an entry of one of them.
+use Rattle.std.proofs.Common.{rules, ◌≡◌}
+use borrow.Author.Tests.{tests}
+use mathlib.Core.Path.{◌∙◌, sym}
+use lib.Dec.{eqb}
+use Rattle.std.proofs.lemmas.Iterator.{YieldsList-from_slice}
+use Rattle.std.proofs.lemmas.Iterator.Search.{any_from_yields_List}
+use Rattle.std.specs.List.{list_any}
+use Rattle.lists.specs.Lists.{any}
+use Rattle.log_reader.specs.Reading.{entries_at}
+use Rattle.open_records.specs.Opening.{starts_of}
+use Rattle.open_records.proofs.Rows.{any_starts, any_entries}
 use Rattle.open_records.proofs.is_held.Goals as goal
 
-pub loop-i-init : goal.loop-i-init
-loop-i-init c = record { same = any_entries _ _ }
-
-pub returns-then-held : goal.returns-then-held
-returns-then-held c = any_here _ c.loop-i.invariant (open_next _ _ c.count_of-n.ensures.0 _ c.loop-i-test.true) c.has_number-held.ensures c.if-held.true
-
-pub loop-i-preserved : goal.loop-i-preserved
-loop-i-preserved c = any_next _ c.loop-i.invariant (open_next _ _ c.count_of-n.ensures.0 _ c.loop-i-test.true) c.has_number-held.ensures c.if-held.false
-
 pub returns : goal.returns
-returns c = any_over _ c.loop-i.invariant (opens_over _ _ c.count_of-n.ensures.0 _ c.loop-i-test.false)
+returns c =
+    let e : c.any.result ≡ list_any (λ p. any (λ d. eqb d.number c.args.number) (entries_at c.args.log.now p)) (starts_of c.args.records) =
+    any_from_yields_List (λ p. any (λ d. eqb d.number c.args.number) (entries_at c.args.log.now p)) _ _ c.any.result c.any.ensures.ran (YieldsList-from_slice (starts_of c.args.records) cc) (λ x b q k. search (rules, tests)) in
+    e ∙ any_starts (λ o. any (λ d. eqb d.number c.args.number) o.entries) _ _ ∙ sym (any_entries _ _)

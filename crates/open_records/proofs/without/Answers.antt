@@ -5,14 +5,10 @@ use Rattle.open_records.specs.Opening.{kept_from}
 use Rattle.open_records.proofs.Rows.{start_next, starts_over}
 use Rattle.open_records.proofs.without.Goals as goal
 
-pub loop-i-init : goal.loop-i-init
+pub loop-at-preserved : goal.loop-at-preserved
 unfolding kept_from
-loop-i-init c = record { same = rw c.none_open-left.ensures }
-
-pub loop-i-preserved : goal.loop-i-preserved
-unfolding kept_from
-loop-i-preserved c = ahead_next c.loop-i.invariant (start_next c.args.records _ c.count_of-n.ensures.0 c.loop-i-test.true) (rw c.keep_unless-next.ensures)
+loop-at-preserved c = ahead_next c.loop-at.invariant (start_next c.args.records _ c.starts-at-items.ensures.0 c.loop-at-test.true) (rw c.keep_unless-left.ensures)
 
 pub returns : goal.returns
 unfolding kept_from
-returns c = ahead_done c.loop-i.invariant (starts_over c.args.records _ c.count_of-n.ensures.0 c.loop-i-test.false) refl
+returns c = ahead_done c.loop-at.invariant (starts_over c.args.records _ c.starts-at-items.ensures.0 c.loop-at-test.false) refl

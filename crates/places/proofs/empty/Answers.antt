@@ -2,4 +2,4 @@
 use Rattle.places.proofs.empty.Goals as goal
 
 pub returns : goal.returns
-returns c = simp (← c.no_transaction-x.ensures, ← c.no_enlistment-e.ensures)
+returns c = simp (← c.no_transaction.ensures, ← c.no_enlistment.ensures)

@@ -3,8 +3,8 @@ use Prim.Native.Nat.{◌-◌}
 use Rattle.read_records.proofs.Judging.{Reading}
 use Rattle.read_records.proofs.read_records.Given as goal
 
-abbrev pub invariant-loop-none : goal.invariant-loop-none
-invariant-loop-none l = Reading l.log l.stored l.records l.at
+abbrev pub invariant-loop-size : goal.invariant-loop-size
+invariant-loop-size l = Reading l.log l.stored l.records l.at
 
-abbrev pub decreases-loop-none : goal.decreases-loop-none
-decreases-loop-none l = l.stored - l.at
+abbrev pub decreases-loop-size : goal.decreases-loop-size
+decreases-loop-size l = l.stored - l.at

@@ -11,7 +11,7 @@ pub loop-i-init : goal.loop-i-init
 loop-i-init c = enlisting_start
 
 pub loop-i-preserved : goal.loop-i-preserved
-loop-i-preserved c = enlisting_again c.loop-i.invariant (omega arith) (open_next _ _ c.count_of-n.ensures.0 _ c.loop-i-test.true) c.put_entries-next.ensures (c.entries_count-more.ensures ∙ sym (entries_long _ _)) (search rules)
+loop-i-preserved c = enlisting_again c.loop-i.invariant (omega arith) (open_next c.args.records _ c.starts-at-items.ensures.0 _ c.loop-i-test.true) c.put_entries-table.ensures (c.entries_count.ensures ∙ sym (entries_long _ _)) (search rules)
 
 pub returns : goal.returns
-returns c = enlisting_done c.loop-i.invariant (opens_over _ _ c.count_of-n.ensures.0 _ c.loop-i-test.false)
+returns c = enlisting_done c.loop-i.invariant (opens_over c.args.records _ c.starts-at-items.ensures.0 _ c.loop-i-test.false)

@@ -7,7 +7,7 @@ pub loop-j-init : goal.loop-j-init
 loop-j-init c = entering_start
 
 pub loop-j-preserved : goal.loop-j-preserved
-loop-j-preserved c = entering_again c.loop-j.invariant (entry_next _ _ _ c.entries_count-n.ensures c.loop-j-test.true) c.enlistment_of-e.ensures c.put_enlistment-next.ensures
+loop-j-preserved c = entering_again c.loop-j.invariant (entry_next _ _ _ c.entries_count-j-end.ensures c.loop-j-test.true) c.enlistment_of-e.ensures c.put_enlistment-table.ensures
 
 pub returns : goal.returns
-returns c = entering_done c.loop-j.invariant (entries_over _ _ _ c.entries_count-n.ensures c.loop-j-test.false)
+returns c = entering_done c.loop-j.invariant (entries_over _ _ _ c.entries_count-j-end.ensures c.loop-j-test.false)

@@ -7,7 +7,7 @@ pub loop-i-init : goal.loop-i-init
 loop-i-init c = naming_start
 
 pub loop-i-preserved : goal.loop-i-preserved
-loop-i-preserved c = naming_again c.loop-i.invariant (open_next _ _ c.count_of-n.ensures.0 _ c.loop-i-test.true) c.transaction_of-x.ensures
+loop-i-preserved c = naming_again c.loop-i.invariant (open_next c.args.records _ c.starts-at-items.ensures.0 _ c.loop-i-test.true) c.transaction_of.ensures
 
 pub returns : goal.returns
-returns c = naming_done c.loop-i.invariant (opens_over _ _ c.count_of-n.ensures.0 _ c.loop-i-test.false)
+returns c = naming_done c.loop-i.invariant (opens_over c.args.records _ c.starts-at-items.ensures.0 _ c.loop-i-test.false)

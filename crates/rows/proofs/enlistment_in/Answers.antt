@@ -4,4 +4,4 @@ use Rattle.rows.proofs.enlistment_in.Goals as goal
 
 pub returns : goal.returns
 unfolding enlistment_in
-returns c = rw (← c.identifier_in-rm.ensures, ← c.number_in-n.ensures)
+returns c = rw (← c.identifier_in.ensures, ← c.number_in.ensures)

@@ -4,4 +4,4 @@ use Rattle.rows.proofs.transaction_in.Goals as goal
 
 pub returns : goal.returns
 unfolding transaction_in
-returns c = rw (← c.identifier_in-id.ensures)
+returns c = rw (← c.identifier_in.ensures)

@@ -5,7 +5,7 @@ use Rattle.trace.proofs.started.Goals as goal
 
 pub returns : goal.returns
 returns c =
-    let r = c.restart-r.ensures in
+    let r = c.restart.ensures in
     let p = c.put_table.ensures in
     record {
       long_heads = p.long_heads;

@@ -1,7 +1,8 @@
 -- Each turn takes some of the block and writes what it printed, so that the next turn has room.
 use native.Mathlib.Omega.{arith}
-use mathlib.Core.Path.{refl, sym, ◌∙◌}
+use mathlib.Core.Path.{refl}
 use borrow.Author.Rules.{rules}
+use Rattle.std.proofs.lemmas.Bool.{not-true}
 use Rattle.trace.proofs.Turns.{running_start, running_again, running_done, running_failed}
 use Rattle.trace.proofs.take_block.Goals as goal
 
@@ -11,23 +12,17 @@ loop-s-init c = let p = c.requires in running_start (record { sound = p.0.sound;
 pub take_lines-next-requires : goal.take_lines-next-requires
 take_lines-next-requires c = let l = c.loop-s.invariant in (record { fits = l.fits; free = omega (arith, l.none) }, l.within)
 
-pub flush-after-requires : goal.flush-after-requires
-flush-after-requires c = let t = c.take_lines-next.ensures.fits in omega (arith, t.waiting, t.output_long)
+pub flush-s-requires : goal.flush-s-requires
+flush-s-requires c = let t = c.take_lines-next.ensures.fits in omega (arith, t.waiting, t.output_long)
 
 pub loop-s-smaller : goal.loop-s-smaller
-loop-s-smaller c = omega (arith, c.flush-after.ensures.taken, c.take_lines-next.ensures.some c.loop-s-test.true)
+loop-s-smaller c = omega (arith, c.flush-s.ensures.taken, c.take_lines-next.ensures.some c.loop-s-test.true)
 
 pub loop-s-preserved : goal.loop-s-preserved
-loop-s-preserved c = running_again c.loop-s.invariant (search rules) c.take_lines-next.ensures c.flush-after.ensures
+loop-s-preserved c = running_again c.loop-s.invariant (search rules) c.take_lines-next.ensures c.flush-s.ensures
 
-pub shape_of-line-else-s : goal.shape_of-line-else-s
-shape_of-line-else-s c = c.take_lines-next.ensures.fits.line_long ∙ sym c.requires.0.line_long
-
-pub shape_of-output-else-s : goal.shape_of-output-else-s
-shape_of-output-else-s c = c.take_lines-next.ensures.fits.output_long ∙ sym c.requires.0.output_long
-
-pub returns-else-s : goal.returns-else-s
-returns-else-s c = running_failed (running_again c.loop-s.invariant (search rules) c.take_lines-next.ensures c.flush-after.ensures) c.if-s.false
+pub returns-then-not-s : goal.returns-then-not-s
+returns-then-not-s c = running_failed (running_again c.loop-s.invariant (search rules) c.take_lines-next.ensures c.flush-s.ensures) (not-true _ c.if-not-s.true)
 
 pub returns : goal.returns
 returns c = running_done c.loop-s.invariant c.loop-s-test.false refl refl refl refl

@@ -7,17 +7,17 @@ use Rattle.trace.proofs.take_lines.Goals as goal
 pub loop-s-init : goal.loop-s-init
 loop-s-init c = taking_start c.requires.0.fits c.requires.1
 
-pub returns-else-room : goal.returns-else-room
-returns-else-room c = taking_done c.loop-s.invariant (λ h e. omega (arith, c.requires.0.free, no_room c.loop-s.s c.has_room-room.ensures c.if-room.false))
+pub returns-then-not-has_room : goal.returns-then-not-has_room
+returns-then-not-has_room c = taking_done c.loop-s.invariant (λ h e. omega (arith, c.requires.0.free, no_room c.loop-s.s c.has_room.ensures c.if-not-has_room.true))
 
-pub take_line-next-requires : goal.take_line-next-requires
-take_line-next-requires c = (record { fits = c.loop-s.invariant.fits; free = enough_room c.loop-s.s c.has_room-room.ensures c.if-room.true }, c.loop-s.invariant.within)
+pub take_line-s-requires : goal.take_line-s-requires
+take_line-s-requires c = (record { fits = c.loop-s.invariant.fits; free = enough_room c.loop-s.s c.has_room.ensures c.if-not-has_room.false }, c.loop-s.invariant.within)
 
 pub loop-s-smaller : goal.loop-s-smaller
-loop-s-smaller c = omega (arith, c.take_line-next.ensures.some c.loop-s-test.true)
+loop-s-smaller c = omega (arith, c.take_line-s.ensures.some c.loop-s-test.true)
 
 pub loop-s-preserved : goal.loop-s-preserved
-loop-s-preserved c = taking_again c.loop-s.invariant c.loop-s-test.true (search rules) c.take_line-next.ensures
+loop-s-preserved c = taking_again c.loop-s.invariant c.loop-s-test.true (search rules) c.take_line-s.ensures
 
 pub returns : goal.returns
 returns c = taking_done c.loop-s.invariant (λ h e. omega (arith, c.loop-s-test.false))

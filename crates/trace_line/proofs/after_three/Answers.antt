@@ -1,7 +1,7 @@
 -- The words of the rest are its first word and those behind the space, or the rest itself if it has no space.
 use native.Mathlib.Omega.{arith}
 use lib.Seq.{length-take-le}
-use mathlib.Core.Path.{sym}
+use mathlib.Core.Path.{refl, sym}
 use mathlib.Core.List.{◌∷◌}
 use Rattle.rules.specs.Trace.{words_read}
 use Rattle.trace_words.proofs.Words.{more_words, last_word}
@@ -17,4 +17,4 @@ returns-then-e-rest c = more_words (λ ws. words_read (c.args.w.now ∷ c.args.a
 
 pub returns-else-e-rest : goal.returns-else-e-rest
 unfolding words_read
-returns-else-e-rest c = last_word (λ ws. words_read (c.args.w.now ∷ c.args.a.now ∷ c.args.b.now ∷ ws)) c.args.rest.now c.word_end-e.ensures c.if-e-rest.false c.unreadable.ensures
+returns-else-e-rest c = last_word (λ ws. words_read (c.args.w.now ∷ c.args.a.now ∷ c.args.b.now ∷ ws)) c.args.rest.now c.word_end-e.ensures c.if-e-rest.false refl

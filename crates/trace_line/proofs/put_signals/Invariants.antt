@@ -1,10 +1,6 @@
 -- The signals that were written, and one more behind them, are the next signals written.
-use Prim.Native.Nat.{◌-◌}
 use Rattle.trace_line.proofs.Signals.{Sending}
 use Rattle.trace_line.proofs.put_signals.Given as goal
 
 abbrev pub invariant-loop-i : goal.invariant-loop-i
 invariant-loop-i l = Sending l.n l.items l.initial.buffer l.from l.buffer l.at l.i
-
-abbrev pub decreases-loop-i : goal.decreases-loop-i
-decreases-loop-i l = l.n - l.i

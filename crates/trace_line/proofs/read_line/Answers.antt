@@ -9,7 +9,7 @@ use Rattle.trace_line.proofs.read_line.Goals as goal
 
 pub returns-then-line-gt-LINE : goal.returns-then-line-gt-LINE
 unfolding command_of
-returns-then-line-gt-LINE c = rw (lt-leb _ _ c.if-line-gt-LINE.true) c.unreadable.ensures
+returns-then-line-gt-LINE c = rw (lt-leb _ _ c.if-line-gt-LINE.true)
 
 pub slice_bounds-after_one-end : goal.slice_bounds-after_one-end
 unfolding command_of

@@ -8,6 +8,6 @@ pub returns : goal.returns
 returns c =
     let a = rw c.to_none-none.ensures at c.answered.ensures in
     let p = c.put_table.ensures in (
-      (λ e capacity. restart_obeys _ e _ c.restart-r.ensures p a),
+      (λ capacity. restart_obeys _ _ c.restart-r.ensures p a),
       rw (a.same_capacity, a.same_used) (a.known ∙ c.is_sound-sound.ensures ∙ ap sound_of (sym p.table)),
     )

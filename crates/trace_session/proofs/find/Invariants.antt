@@ -1,5 +1,5 @@
 -- None of those passed is the byte, so that its index is as far on as they are many.
-use Prim.Native.Nat.{◌+◌, ◌-◌, ◌≤◌}
+use Prim.Native.Nat.{◌+◌, ◌≤◌}
 use mathlib.Core.Path.{◌≡◌}
 use Rattle.trace_session.specs.Bytes.{index_of, slice}
 use Rattle.trace_session.proofs.find.Given as goal
@@ -10,6 +10,3 @@ invariant-loop-i l = record {
   within : l.i ≤ l.to;
   same : l.from + index_of l.byte (slice l.from l.to l.block) ≡ l.i + index_of l.byte (slice l.i l.to l.block);
 }
-
-abbrev pub decreases-loop-i : goal.decreases-loop-i
-decreases-loop-i l = l.to - l.i

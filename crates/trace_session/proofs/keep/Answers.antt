@@ -11,4 +11,4 @@ pub put_text-requires : goal.put_text-requires
 put_text-requires c = simp length-take (omega arith)
 
 pub returns : goal.returns
-returns c = keeps_room c.put_text.ensures c.least-n.ensures
+returns c = keeps_room c.put_text.ensures c.min-n.ensures

@@ -1,22 +1,17 @@
--- The bytes before i hold no space, so the first space of what is left, counted from i, is the line's.
-use mathlib.Core.Path.{refl}
-use native.Mathlib.Omega.{arith}
-use Rattle.trace_words.specs.Words.{word_end}
-use Rattle.lists.proofs.Loops.{look_start, look_next, look_stop, look_done}
+-- The library's first place of a space, and the length where there is none, is the definition's.
+use mathlib.Core.Path.{◌∙◌}
+use lib.Dec.{eqb}
+use borrow.Author.Rules.{rules}
+use Rattle.std.proofs.Common.{tests}
+use Rattle.std.proofs.lemmas.Iterator.{YieldsList-from_slice}
+use Rattle.std.proofs.lemmas.Iterator.Search.{position_from_yields_List}
+use Rattle.rules.specs.Trace.{space}
+use Rattle.trace_words.proofs.Words.{word_end_found}
 use Rattle.trace_words.proofs.word_end.Goals as goal
 
-pub loop-i-init : goal.loop-i-init
-unfolding word_end
-loop-i-init c = look_start refl
-
-pub returns-then-space : goal.returns-then-space
-unfolding word_end
-returns-then-space c = omega (arith, look_stop {r = c.loop-i.i} 0 c.loop-i.invariant c.loop-i-test.true (λ xs. rw c.if-space.true-raw (omega arith)))
-
-pub loop-i-preserved : goal.loop-i-preserved
-unfolding word_end
-loop-i-preserved c = look_next 0 c.loop-i.invariant c.loop-i-test.true (λ xs. rw c.if-space.false-raw (omega arith))
-
 pub returns : goal.returns
-unfolding word_end
-returns c = omega (arith, look_done {r = c.loop-i.i} c.loop-i.invariant c.loop-i-test.false (omega arith))
+returns c =
+    let yields = YieldsList-from_slice c.args.s.now c.iter.ensures.rest in
+    c.unwrap_or.ensures ∙ word_end_found c.args.s.now
+    (position_from_yields_List (λ b. eqb b space) _ _ c.position.result c.position.ensures.ran yields
+    (λ x b q k. search (rules, tests)))

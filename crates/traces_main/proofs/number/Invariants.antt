@@ -1,10 +1,6 @@
 -- `extended` stays within the memory at each digit.
-use Prim.Native.Nat.{◌≤◌, ◌-◌}
-use lib.ListN.{length}
+use Prim.Native.Nat.{◌≤◌}
 use Rattle.traces_main.proofs.number.Given as goal
 
-abbrev pub invariant-loop-i : goal.invariant-loop-i
-invariant-loop-i l = (l.i ≤ length l.digits) × (l.n ≤ 4096)
-
-abbrev pub decreases-loop-i : goal.decreases-loop-i
-decreases-loop-i l = length l.digits - l.i
+abbrev pub invariant-loop-digit : goal.invariant-loop-digit
+invariant-loop-digit l = l.n ≤ 4096

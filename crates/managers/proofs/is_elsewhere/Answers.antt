@@ -1,9 +1,0 @@
--- Where it is Done, or not of the resource manager, the conjunction is false, and else it is the test of the state.
-use mathlib.Core.Path.{sym, ◌∙◌}
-use Rattle.managers.proofs.is_elsewhere.Goals as goal
-
-pub returns-then-its : goal.returns-then-its
-returns-then-its c = rw (sym c.is_undone-its.ensures ∙ c.if-its.true)
-
-pub returns-else-its : goal.returns-else-its
-returns-else-its c = rw (sym c.is_undone-its.ensures ∙ c.if-its.false)

@@ -1,8 +1,0 @@
--- The one with the number is the one that the definition frees; any other is left by both.
-use Rattle.passes.proofs.freed_number.Goals as goal
-
-pub returns-then-named : goal.returns-then-named
-returns-then-named c = rw c.if-named.true-raw c.no_enlistment.ensures
-
-pub returns : goal.returns
-returns c = rw c.if-named.false-raw

@@ -1,9 +1,0 @@
--- Each turn goes on by one, up to the last place.
-use Prim.Native.Nat.{◌≤◌, ◌-◌}
-use Rattle.restart_main.proofs.shown.held.Given as goal
-
-abbrev pub invariant-loop-i : goal.invariant-loop-i
-invariant-loop-i l = l.i ≤ 128
-
-abbrev pub decreases-loop-i : goal.decreases-loop-i
-decreases-loop-i l = 128 - l.i

@@ -1,9 +1,0 @@
--- Each turn goes on by one, so that the loop ends.
-use Prim.Native.Nat.{◌≤◌, ◌-◌}
-use Rattle.restart_main.proofs.wrong_headers.Given as goal
-
-abbrev pub invariant-loop-i : goal.invariant-loop-i
-invariant-loop-i l = l.i ≤ 8
-
-abbrev pub decreases-loop-i : goal.decreases-loop-i
-decreases-loop-i l = 8 - l.i
