@@ -112,7 +112,7 @@ by_digits n (b ∷ bs) h =
     (λ l.
     let g : largest_number < value_from m bs = omega (arith, leb-false m largest_number l, value_grows m bs) in
     rw (d, l) (sym (too_large (all is_digit bs) (value_from m bs) g))))
-    (λ d. rw d)
+    (λ d. rw d (no_number_lem bs))
 
 -- a loop that extends n by each byte of w
 abbrev pub Extended : List ℕ → ℕ → ℕ → Type 0
