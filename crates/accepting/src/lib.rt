@@ -20,7 +20,7 @@ use rules::{
 fn is_zero_at_once(kind: Kind, state: u8) -> bool
     ensures { result ≡ zero_at_once kind state }
 {
-    u8::from(kind) == kinds::PHASE_ZERO && state == transaction_state::PHASE_ZERO
+    reactions::kind_of(kind) == kinds::PHASE_ZERO && state == transaction_state::PHASE_ZERO
 }
 
 #[derive(Clone, Copy)]
@@ -43,7 +43,7 @@ pub fn entry(p: u8, state: u8, n: u32, rm: [u8; 16], kind: Kind, mark: Mark) -> 
             holder: p,
             rm: RmId(rm),
             number: n,
-            kind: u8::from(kind),
+            kind: reactions::kind_of(kind),
             mark: reactions::mark_of(kind, mark),
             state: first,
         },

@@ -59,15 +59,17 @@ pub fn is_zero_enlistment(e: Enlistment, bare: bool) -> bool
     requires { bare ≡ same_bytes e.rm.0 zero_id }
     ensures { result ≡ is_zero_enlistment e }
 {
-    e.holder == 0 && bare && e.number == 0 && e.kind == 0 && e.mark == 0 && e.state == 0
+    let named = basics::both(bare, e.number == 0);
+    let kept = basics::both(e.kind == 0, basics::both(e.mark == 0, e.state == 0));
+    basics::both(e.holder == 0, basics::both(named, kept))
 }
 
 fn is_known(e: Enlistment) -> bool
     ensures { result ≡ is_known e }
 {
-    let kind = e.kind;
-    (kind == kinds::PHASE_ZERO || kind == kinds::VOLATILE || kind == kinds::DURABLE)
-        && e.mark <= marks::YES
+    let enlists = basics::either(e.kind == kinds::VOLATILE, e.kind == kinds::DURABLE);
+    let named = basics::either(e.kind == kinds::PHASE_ZERO, enlists);
+    basics::both(named, e.mark <= marks::YES)
 }
 
 // By a transaction in this state.

@@ -56,7 +56,7 @@ fn finds_held(rows: &[[u8; 24]; 128], p: u8, n: u32, rm: [u8; 16], kind: Kind) -
 {
     let e = lent_places::numbered(rows, n);
     let second = lent_counts::has_durable_of(rows, p, rm);
-    refusals::is_already_held(e.number == n, second, u8::from(kind))
+    refusals::is_already_held(e.number == n, second, reactions::kind_of(kind))
 }
 
 fn finds_full(rows: &[[u8; 24]; 128], p: u8) -> bool

@@ -13,30 +13,41 @@ ghost use Rattle.holdings.specs.Within.{taken, refill};
 use holdings::Holding;
 use rules::{Enlistment, Table, Transaction, sizes};
 
+// In place, here and below: an array's `map` makes another array, and moves it several times.
 pub fn heads_of(transactions: [Transaction; 32], heads: &mut [[u8; 17]; 32])
     ensures { map transaction_in heads.new ≡ transactions }
 {
-    let spelt = transactions.map(rows::head_of);
-    *heads = spelt;
+    for (i, x) in transactions.iter().enumerate() {
+        heads[i] = rows::head_of(*x);
+    }
 }
 
 pub fn rows_of(enlistments: [Enlistment; 128], rows: &mut [[u8; 24]; 128])
     ensures { map enlistment_in rows.new ≡ enlistments }
 {
-    let spelt = enlistments.map(rows::row_of);
-    *rows = spelt;
+    for (i, e) in enlistments.iter().enumerate() {
+        rows[i] = rows::row_of(*e);
+    }
 }
 
 pub fn transactions_in(heads: &[[u8; 17]; 32]) -> [Transaction; 32]
     ensures { result ≡ map transaction_in heads.now }
 {
-    heads.map(rows::transaction_in)
+    let mut transactions = [places::no_transaction(); 32];
+    for (i, head) in heads.iter().enumerate() {
+        transactions[i] = rows::transaction_in(*head);
+    }
+    transactions
 }
 
 pub fn enlistments_in(rows: &[[u8; 24]; 128]) -> [Enlistment; 128]
     ensures { result ≡ map enlistment_in rows.now }
 {
-    rows.map(rows::enlistment_in)
+    let mut enlistments = [places::no_enlistment(); 128];
+    for (i, row) in rows.iter().enumerate() {
+        enlistments[i] = rows::enlistment_in(*row);
+    }
+    enlistments
 }
 
 pub fn table_in(heads: &[[u8; 17]; 32], rows: &[[u8; 24]; 128], capacity: u32, used: u32) -> Table

@@ -1,17 +1,15 @@
 -- What std says that a chain of iterators gives, in the words of `Lists` and `Places`; the chain goes over a list of
 -- which each element means another.
-use Prim.Native.Nat.{ℕ, suc, ◌+◌, ◌<◌}
-use native.Mathlib.Omega.{arith}
+use Prim.Native.Nat.{ℕ, suc, ◌+◌}
 use native.Mathlib.Numerals.{add-one}
-use mathlib.Core.Path.{◌≡◌, refl, ap, sym, ◌∙◌}
+use mathlib.Core.Path.{◌≡◌, refl, ap}
 use mathlib.Core.Bool.{Bool, ◌||◌}
 use mathlib.Core.List.{List, [], ◌∷◌, map}
 use Rattle.std.specs.Prelude.{Option, MatchOption}
-use lib.ListN.{length, get_or, length-map, get_or-map}
+use lib.ListN.{length}
 use Rattle.std.specs.List as std
 use Rattle.std.specs.List.{list_any, find, position, position_from}
 use Rattle.std.proofs.lemmas.Iterator.Adapters.{position_from-zero}
-use Rattle.std.proofs.lemmas.List.{ext_get_or}
 use Rattle.lists.specs.Lists.{any, filter, first_or}
 use Rattle.lists.specs.Places.{place_from, place_of}
 use Rattle.lists.proofs.Tests.{by_test}
@@ -52,16 +50,3 @@ module _ {A B : Type 0} (f : B → Bool) (g : A → B) where
   unfolding filter
   length_listed [] = refl
   length_listed (x ∷ xs) = by_test (f (g x)) (λ t. rw t (ap suc (length_listed xs))) (λ t. rw t (length_listed xs))
-
--- ── an array's `map`, by what its call gives at each index ──────────────────────────────────────────────────────────
-
--- what g gives of each
-pub array_mapped : {A B : Type 0} (g : A → B) (xs : List A) (ys : List B) {n : ℕ} (d : A) → length xs ≡ n → length ys ≡ n
-    → ((i : ℕ) → i < n → get_or ys i (g d) ≡ g (get_or xs i d)) → ys ≡ map g xs
-array_mapped g xs ys d l m h = ext_get_or (g d) ys (map g xs) (m ∙ sym (length-map xs g ∙ l))
-    (λ i lt. h i (omega (arith, lt, m)) ∙ sym (get_or-map g xs i d))
-
--- what means each, by g
-pub array_meant : {A B : Type 0} (g : A → B) (xs : List B) (ys : List A) {n : ℕ} (d : A) → length xs ≡ n → length ys ≡ n
-    → ((i : ℕ) → i < n → g (get_or ys i d) ≡ get_or xs i (g d)) → map g ys ≡ xs
-array_meant g xs ys d l m h = sym (array_mapped g ys xs d m l (λ i lt. sym (h i lt)))

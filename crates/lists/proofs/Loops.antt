@@ -236,3 +236,7 @@ module _ {A B : Type 0} {f : ℕ → List A → List B} {n : ℕ} {l : List A} w
   fill_done {out} {i} p h e =
       let z : i ≡ n = omega arith in
       sym (append-nil out) ∙ ahead_done p.ahead (array_over l p.long h) (rw (z, take_all n out (omega arith), e))
+
+-- with f(x) for each x
+pub fill_map : {A B : Type 0} (f : A → B) {n : ℕ} {l : List A} {out : List B} {i : ℕ} {y : B} (d : A) → Filled (λ k. map f) n l out i → i < n → y ≡ f (get_or l i d) → Filled (λ k. map f) n l (set out i y) (i + 1)
+fill_map f d p h q = fill_again d p h (λ xs. ap (λ z. z ∷ map f xs) (sym q))

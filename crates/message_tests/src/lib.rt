@@ -32,7 +32,7 @@ pub fn is_message(bytes: &[u8]) -> bool
 fn is_zero(id: [u8; IDENTIFIER]) -> bool
     ensures { result ≡ same_bytes id zero_id }
 {
-    id == [0; IDENTIFIER]
+    identifiers::same(id, [0; IDENTIFIER])
 }
 
 #[tactic(auto, unfolding(rules::specs::Messages::is_writable, lists::specs::Lists::every))]

@@ -5,11 +5,12 @@
 
 #![tactic(auto)]
 
-ghost use Rattle.std.specs.Prelude.{◌≤◌, ◌<◌};
+ghost use Rattle.std.specs.Prelude.{◌≡◌, ◌≤◌, ◌<◌};
+ghost use Rattle.rules.specs.Messages.{no_message, read_answer, written_answer};
 
 use message_fields::{CONNECTION_AT, LENGTH_AT, MASTER_AT, RESERVED_AT, TAG_AT, TYPE_AT};
 use rules::sizes::IDENTIFIER;
-use rules::{Message, RmId, SessionId, TxId, message_type, refusal_number};
+use rules::{Message, Refusal, RmId, SessionId, TxId, message_type, refusal_number};
 
 // Section 4.2.3, PARTNERTM_BRANCH_MTAG_BRANCHING: MsgTag, fIsMaster, dwConnectionId, dwUserMsgType, dwcbVarLenData, dwReserved1, and
 // guidTx 4046037e-9722-46c9-9883-99062341cb35.
@@ -53,15 +54,64 @@ const ROOM: usize = 58;
 // What the writer is lent.
 const UNWRITTEN: u8 = 0xee;
 
-const NO_MESSAGE: Message = Message {
-    master: 0,
-    connection: 0,
-    kind: 0,
-    reserved: 0,
-    tx: TxId([0; IDENTIFIER]),
-    rm: RmId([0; IDENTIFIER]),
-    session: SessionId([0; IDENTIFIER]),
-};
+// What the reader answers, by the numbers of refusals.
+#[derive(Clone, Copy)]
+struct ReadTold {
+    refusal: u8,
+    message: Message,
+}
+
+// A refused reader gives an all-zero message.
+fn no_message() -> Message
+    ensures { result ≡ no_message }
+{
+    Message {
+        master: 0,
+        connection: 0,
+        kind: 0,
+        reserved: 0,
+        tx: TxId([0; IDENTIFIER]),
+        rm: RmId([0; IDENTIFIER]),
+        session: SessionId([0; IDENTIFIER]),
+    }
+}
+
+fn read_told(answer: Result<Message, Refusal>) -> ReadTold
+    ensures { let a = read_answer answer in (result.refusal ≡ a.refusal) × (result.message ≡ a.message) }
+{
+    match answer {
+        Ok(message) => ReadTold {
+            refusal: refusal_number::ACCEPTED,
+            message,
+        },
+        Err(refusal) => ReadTold {
+            refusal: u8::from(refusal),
+            message: no_message(),
+        },
+    }
+}
+
+// What the writer answers: a refused one the length 0.
+#[derive(Clone, Copy)]
+struct WrittenTold {
+    refusal: u8,
+    length: usize,
+}
+
+fn written_told(answer: Result<usize, Refusal>) -> WrittenTold
+    ensures { let a = written_answer answer in (result.refusal ≡ a.refusal) × (result.length ≡ a.length) }
+{
+    match answer {
+        Ok(length) => WrittenTold {
+            refusal: refusal_number::ACCEPTED,
+            length,
+        },
+        Err(refusal) => WrittenTold {
+            refusal: u8::from(refusal),
+            length: 0,
+        },
+    }
+}
 
 fn print_bytes(bytes: &[u8]) {
     for b in bytes {
@@ -101,25 +151,19 @@ fn print_memory(memory: &[u8]) {
 }
 
 fn show_written(m: Message, memory: &mut [u8]) {
-    let (refusal, length) = match messages::write_message(m, memory) {
-        Ok(length) => (refusal_number::ACCEPTED, length),
-        Err(refusal) => (u8::from(refusal), 0),
-    };
-    print_number(b" written ", u64::from(refusal));
-    print_number(b" length ", length as u64);
+    let answer = messages::write_message(m, memory);
+    let w = written_told(answer);
+    print_number(b" written ", u64::from(w.refusal));
+    print_number(b" length ", w.length as u64);
     print_memory(memory);
 }
 
-// As document 01 has it, a refused reader gives an all-zero message.
 fn show(name: &[u8], bytes: &[u8]) {
-    let (refusal, m) = match messages::read_message(bytes) {
-        Ok(m) => (refusal_number::ACCEPTED, m),
-        Err(refusal) => (u8::from(refusal), NO_MESSAGE),
-    };
+    let r = read_told(messages::read_message(bytes));
     io::write_all(1, name);
-    print_number(b" read ", u64::from(refusal));
-    print_message(m);
-    show_written(m, &mut [UNWRITTEN; ROOM]);
+    print_number(b" read ", u64::from(r.refusal));
+    print_message(r.message);
+    show_written(r.message, &mut [UNWRITTEN; ROOM]);
 }
 
 // The vectors above, with another byte, another type, or less of it.
@@ -256,7 +300,7 @@ fn written(name: &[u8], m: Message, memory: &mut [u8]) {
 
 // The sample, as it is read.
 fn branching_message() -> Message {
-    messages::read_message(&BRANCHING).unwrap_or(NO_MESSAGE)
+    read_told(messages::read_message(&BRANCHING)).message
 }
 
 fn rooms() {

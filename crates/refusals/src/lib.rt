@@ -12,7 +12,7 @@ ghost use Rattle.rules.specs.Refusals.{first_of};
 ghost use Rattle.rules.specs.Checks as checks;
 ghost use Rattle.rules.specs.Checks.{is_early};
 
-use rules::{Act, Enlistment, Reaction, Refusal, kinds, sizes, transaction_state};
+use rules::{Act, Enlistment, Refusal, kinds, refusal_number, sizes, transaction_state};
 
 // A count is a byte.
 const HELD: u8 = sizes::HELD as u8;
@@ -147,7 +147,8 @@ pub fn about_one(n: u32, act: Act, e: Enlistment) -> Result<(), Refusal>
     if e.number != n {
         return Err(Refusal::NotHeld);
     }
-    if let Reaction::Refused = reactions::reaction(e.kind, e.state, act) {
+    let reaction = reactions::reaction(e.kind, e.state, act);
+    if reactions::refusal_of(reaction) != refusal_number::ACCEPTED {
         return Err(Refusal::EnlistmentState);
     }
     Ok(())

@@ -3,11 +3,14 @@
 
 #![tactic(auto)]
 
+ghost use Rattle.std.specs.Prelude.{◌≡◌};
+ghost use Rattle.rules.specs.Step.{stepped_of};
+
 mod reader;
 mod writer;
 
 use reader::Row;
-use rules::{Command, Event, Stepped, Table, refusal_number};
+use rules::{Command, Event, Refusal, Signals, Stepped, Table, refusal_number};
 
 const STDIN_FILENO: i32 = 0;
 
@@ -16,11 +19,29 @@ const STDOUT_FILENO: i32 = 1;
 // No record of these rows holds this byte, so that each byte written is seen.
 const UNWRITTEN: u8 = 0xEE;
 
-// What a refused step leaves: the table that it was given, and no signals.
-fn unchanged(table: Table) -> Stepped {
-    Stepped {
-        table,
-        signals: signals::to_none(),
+// What came of a step, by the numbers of refusals.
+#[derive(Clone, Copy)]
+struct Answer {
+    table: Table,
+    signals: Signals,
+    refusal: u8,
+}
+
+// A refused one leaves the table that it was given, and sends no signal.
+fn told(table: Table, answer: Result<Stepped, Refusal>) -> Answer
+    ensures { let a = stepped_of table answer in (result.table ≡ a.table) × (result.signals ≡ a.signals) × (result.refusal ≡ a.refusal) }
+{
+    match answer {
+        Ok(s) => Answer {
+            table: s.table,
+            signals: s.signals,
+            refusal: refusal_number::ACCEPTED,
+        },
+        Err(refusal) => Answer {
+            table,
+            signals: signals::to_none(),
+            refusal: u8::from(refusal),
+        },
     }
 }
 
@@ -31,11 +52,9 @@ fn stepped(row: Row, event: Event, log: &mut [u8], out: &mut [u8]) -> usize {
     if log.len() < lent {
         return 0;
     }
-    let (refusal, s) = match step::step(table, event, &mut log[..lent]) {
-        Ok(s) => (refusal_number::ACCEPTED, s),
-        Err(refusal) => (u8::from(refusal), unchanged(table)),
-    };
-    let first = writer::outcome(out, refusal, s.table.used, s.signals);
+    let answer = step::step(table, event, &mut log[..lent]);
+    let s = told(table, answer);
+    let first = writer::outcome(out, s.refusal, s.table.used, s.signals);
     let second = writer::put_table(out, first, s.table);
     let third = writer::changed(out, second, log, UNWRITTEN);
     writer::put(out, third, b'\n')

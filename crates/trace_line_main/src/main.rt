@@ -2,7 +2,8 @@
 
 #![tactic(auto)]
 
-ghost use Rattle.std.specs.Prelude.{◌≤◌, length};
+ghost use Rattle.std.specs.Prelude.{◌≡◌, ◌≤◌, length};
+ghost use Rattle.trace_line_main.specs.Shown.{event_shown};
 
 use rules::sizes::IDENTIFIER;
 use rules::{
@@ -105,7 +106,9 @@ fn command_word(command: Option<Command>) -> &'static [u8] {
 }
 
 // The event of a step. Beside a line that is none, a Begin of zeros is shown.
-fn event_of(command: Option<Command>) -> Event {
+fn event_of(command: Option<Command>) -> Event
+    ensures { result ≡ event_shown command }
+{
     if let Some(Command::Step(event)) = command {
         return event;
     }

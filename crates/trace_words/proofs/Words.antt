@@ -92,6 +92,10 @@ value_grows n (b ∷ bs) =
     let h : m ≤ value_from m bs = value_grows m bs in
     omega arith
 
+-- once too large, always too large
+no_number_lem : (w : List ℕ) → option_and_then (λ n. extended_by n w) None ≡ None
+no_number_lem w = refl
+
 too_large : (a : Bool) (v : ℕ) → largest_number < v → cond (a && leb v largest_number) (Some v) None ≡ None
 too_large true v h = rw (lt-leb v largest_number h)
 too_large false v h = refl
@@ -108,7 +112,7 @@ by_digits n (b ∷ bs) h =
     (λ l.
     let g : largest_number < value_from m bs = omega (arith, leb-false m largest_number l, value_grows m bs) in
     rw (d, l) (sym (too_large (all is_digit bs) (value_from m bs) g))))
-    (λ d. rw d)
+    (λ d. rw d (no_number_lem bs))
 
 -- a loop that extends n by each byte of w
 abbrev pub Extended : List ℕ → ℕ → ℕ → Type 0

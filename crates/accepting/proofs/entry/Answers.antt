@@ -7,6 +7,6 @@ use Rattle.accepting.proofs.entry.Goals.{then-is_zero_at_once, else-is_zero_at_o
 pub returns : goal.returns
 unfolding new_enlistment
 returns c = elim c.if-is_zero_at_once.branch [
-  | then-is_zero_at_once w ↦ rw (w.first-is, sym c.is_zero_at_once.ensures ∙ w.if-is_zero_at_once.true, c.from.ensures, c.mark_of.ensures) (refl, w.to_one.ensures)
-  | else-is_zero_at_once w ↦ rw (w.first-is, sym c.is_zero_at_once.ensures ∙ w.if-is_zero_at_once.false, c.from.ensures, c.mark_of.ensures) (refl, w.to_none.ensures)
+  | then-is_zero_at_once w ↦ rw (w.first-is, sym c.is_zero_at_once.ensures ∙ w.if-is_zero_at_once.true, c.kind_of.ensures, c.mark_of.ensures) (refl, w.to_one.ensures)
+  | else-is_zero_at_once w ↦ rw (w.first-is, sym c.is_zero_at_once.ensures ∙ w.if-is_zero_at_once.false, c.kind_of.ensures, c.mark_of.ensures) (refl, w.to_none.ensures)
 ]

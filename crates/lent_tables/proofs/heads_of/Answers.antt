@@ -1,12 +1,13 @@
 -- Each is stored in its own place.
-use mathlib.Core.List.{[]}
-use borrow.Author.Rules.{rules}
-use Rattle.lists.proofs.Chains.{array_meant}
 use Rattle.lists.proofs.Loops.{long}
-use Rattle.rows.specs.Memory.{transaction_in}
+use Rattle.rows.proofs.Mapped.{write_start, write_again, write_done}
 use Rattle.lent_tables.proofs.heads_of.Goals as goal
 
+pub loop-i-init : goal.loop-i-init
+loop-i-init c = write_start (search long) c.told-heads
+
+pub loop-i-preserved : goal.loop-i-preserved
+loop-i-preserved c = write_again _ c.loop-i.invariant c.loop-i-test.true c.head_of.ensures
+
 pub returns : goal.returns
-returns c = array_meant transaction_in c.args.transactions c.map-spelt.result {n = 32} [] (search long)
-    c.map-spelt.ensures.items.long
-    (λ i lt. let (p, q, k) = c.map-spelt.ensures.items.at i (transaction_in []) [] lt in search rules)
+returns c = (write_done c.loop-i.invariant c.loop-i-test.false).1

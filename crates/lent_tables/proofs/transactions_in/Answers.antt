@@ -1,10 +1,15 @@
 -- Each is read from its own place.
+use mathlib.Core.Path.{refl}
 use mathlib.Core.List.{[]}
-use borrow.Author.Rules.{rules}
-use Rattle.lists.proofs.Chains.{array_mapped}
+use Rattle.lists.proofs.Loops.{fill_start, fill_map, fill_done}
 use Rattle.rows.specs.Memory.{transaction_in}
 use Rattle.lent_tables.proofs.transactions_in.Goals as goal
 
+pub loop-i-init : goal.loop-i-init
+loop-i-init c = fill_start c.told-heads refl
+
+pub loop-i-preserved : goal.loop-i-preserved
+loop-i-preserved c = fill_map transaction_in [] c.loop-i.invariant c.loop-i-test.true c.transaction_in.ensures
+
 pub returns : goal.returns
-returns c = array_mapped transaction_in c.args.heads.now c.map.result [] c.told-heads c.map.ensures.items.long
-    (λ i lt. let (p, q, k) = c.map.ensures.items.at i [] (transaction_in []) lt in search rules)
+returns c = fill_done c.loop-i.invariant c.loop-i-test.false refl
